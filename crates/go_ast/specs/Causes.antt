@@ -1,0 +1,22 @@
+-- What a count of faults says of an answer. A count stands still at the end of its type, 2 ^ 64 - 1.
+use Rattle.std.specs.Prelude.{ℕ, ◌+◌, ◌-◌, ◌^◌, ◌≤◌, Result, OnErr, IsErrOf, min}
+use Rattle.go_ast.specs.declared.errors.IoFail.{IoFail}
+use Rattle.go_ast.specs.declared.errors.IoFail.TheVariants as causes
+
+-- the count rose by n at least, or stands at its end
+abbrev pub RoseBy : ℕ → ℕ → ℕ → Type 0
+RoseBy n before now = min (before + n) (2 ^ 64 - 1) ≤ now
+
+-- the count rose, or stands at its end
+abbrev pub Rose : ℕ → ℕ → Type 0
+Rose before now = RoseBy 1 before now
+
+-- the count hasn't fallen, and a failure is answered only where it rose
+pub record HasCause {T E : Type 0} (before now : ℕ) (result : Result T E) : Type 0 where
+  pub later : before ≤ now
+  pub failed : OnErr result (Rose before now)
+
+-- the same of a call that may also run out of memory
+pub record HasIoCause {T : Type 0} (before now : ℕ) (result : Result T IoFail) : Type 0 where
+  pub later : before ≤ now
+  pub failed : IsErrOf result causes.Failed → Rose before now
