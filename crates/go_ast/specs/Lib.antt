@@ -1,1 +1,4 @@
 pub mod Causes
+pub mod Lexical
+pub mod Position
+pub mod Reading

@@ -1,0 +1,108 @@
+-- The reading of a source: its items from the first byte to the last, and the tokens and comments that
+-- they are (The Go Programming Language Specification, "Lexical elements" and "Semicolons").
+use Rattle.std.specs.Prelude.{◌≡◌, ℕ, ◌+◌, ◌<◌, Bool, true, false, ◌&&◌, ◌||◌, List, [], ◌∷◌, ◌++◌, length, if◌then◌else◌, ◌==◌, codes, IsUtf8}
+use Rattle.std.specs.Str.{IsValidUpTo}
+use Rattle.go_ast.specs.declared.token.Span.{Span}
+use Rattle.go_ast.specs.declared.token.Token.{Token}
+use Rattle.go_ast.specs.declared.token.TokenKind.{TokenKind}
+use Rattle.go_ast.specs.declared.token.TokenKind.TheVariants.{Ident, Keyword, Int, Text, Operator, Semi, AutoSemi}
+use Rattle.go_ast.specs.declared.token.Comment.{Comment}
+use Rattle.go_ast.specs.declared.fault.Fault.{Fault}
+use Rattle.go_ast.specs.declared.fault.Fault.TheVariants as faults
+use Rattle.go_ast.specs.Lexical.{Spelling, identifier, keyword, integer, operator, text, semicolon, Item, white_space, byte_order_mark, line_comment, spelled, print_item, Stands, newline, is_among}
+
+abbrev pub span : ℕ → ℕ → Span
+span start end = record { start = start; end = end }
+
+-- the items stand one after another from the offset on, and lead from the bytes to the rest
+abbrev pub Leads : ℕ → List Item → List ℕ → List ℕ → Type 0
+Leads offset [] bytes rest = bytes ≡ rest
+Leads offset (item ∷ items) bytes rest =
+    (after : List ℕ) × (bytes ≡ print_item item ++ after) × Stands offset item after
+    × Leads (offset + length (print_item item)) items after rest
+
+-- what kind of token a spelling is
+abbrev pub kind_of : Spelling → TokenKind
+kind_of (identifier characters) = Ident
+kind_of (keyword word) = Keyword
+kind_of (integer digits) = Int
+kind_of (operator mark) = Operator
+kind_of (text elements) = Text
+kind_of semicolon = Semi
+
+-- whether a line's last token takes a semicolon after it
+abbrev pub takes_semicolon : Spelling → Bool
+takes_semicolon (identifier characters) = true
+takes_semicolon (keyword word) = is_among (codes "break" ∷ codes "continue" ∷ codes "fallthrough" ∷ codes "return" ∷ []) word
+takes_semicolon (integer digits) = true
+takes_semicolon (operator mark) = is_among (codes "++" ∷ codes "--" ∷ codes ")" ∷ codes "]" ∷ codes "}" ∷ []) mark
+takes_semicolon (text elements) = true
+takes_semicolon semicolon = false
+
+-- whether a line, or the source, ends before the next token; a line comment acts like a newline
+abbrev pub line_ends : List Item → Bool
+line_ends [] = true
+line_ends (white_space b ∷ items) = b == newline || line_ends items
+line_ends (byte_order_mark ∷ items) = line_ends items
+line_ends (line_comment content ∷ items) = true
+line_ends (spelled spelling ∷ items) = false
+
+abbrev pub token_of : TokenKind → ℕ → ℕ → Token
+token_of kind start end = record { kind = kind; span = span start end }
+
+-- the semicolon that is put at the offset where a spelling ends, before these items
+abbrev pub semicolon_after : Spelling → ℕ → List Item → List Token
+semicolon_after spelling end items =
+    if takes_semicolon spelling && line_ends items then token_of AutoSemi end end ∷ [] else []
+
+-- the tokens of the items from an offset on
+abbrev pub tokens_of : ℕ → List Item → List Token
+tokens_of offset [] = []
+tokens_of offset (white_space b ∷ items) = tokens_of (offset + length (print_item (white_space b))) items
+tokens_of offset (byte_order_mark ∷ items) = tokens_of (offset + length (print_item byte_order_mark)) items
+tokens_of offset (line_comment content ∷ items) = tokens_of (offset + length (print_item (line_comment content))) items
+tokens_of offset (spelled spelling ∷ items) =
+    let end = offset + length (print_item (spelled spelling)) in
+    token_of (kind_of spelling) offset end ∷ semicolon_after spelling end items ++ tokens_of end items
+
+-- the comments of the items from an offset on
+abbrev pub comments_of : ℕ → List Item → List Comment
+comments_of offset [] = []
+comments_of offset (white_space b ∷ items) = comments_of (offset + length (print_item (white_space b))) items
+comments_of offset (byte_order_mark ∷ items) = comments_of (offset + length (print_item byte_order_mark)) items
+comments_of offset (line_comment content ∷ items) =
+    let end = offset + length (print_item (line_comment content)) in
+    record { span = span offset end; general = false } ∷ comments_of end items
+comments_of offset (spelled spelling ∷ items) = comments_of (offset + length (print_item (spelled spelling))) items
+
+-- the bytes are UTF-8, items lead from the first byte to the end, and these are their tokens and comments
+pub record Reads (bytes : List ℕ) (tokens : List Token) (comments : List Comment) : Type 0 where
+  pub utf8 : IsUtf8 bytes
+  pub items : List Item
+  pub leads : Leads 0 items bytes []
+  pub all_tokens : tokens ≡ tokens_of 0 items
+  pub all_comments : comments ≡ comments_of 0 items
+
+-- items lead from the first byte to the byte at this offset, and no item stands there
+pub record IsStuckAt (bytes : List ℕ) (offset : ℕ) : Type 0 where
+  pub items : List Item
+  pub rest : List ℕ
+  pub leads : Leads 0 items bytes rest
+  pub within : 0 < length rest
+  pub place : offset + length rest ≡ length bytes
+  pub none : (item : Item) (after : List ℕ) → rest ≡ print_item item ++ after → Stands offset item after → ⊥
+
+-- the fault of a source that has no reading: that it isn't UTF-8 comes first
+abbrev pub ScanFault : List ℕ → Fault → Type 0
+ScanFault bytes (faults.NotUtf8 offset) = IsValidUpTo bytes offset
+ScanFault bytes (faults.NotYet offset) = IsUtf8 bytes × IsStuckAt bytes offset
+ScanFault bytes (faults.BadToken offset) = ⊥
+ScanFault bytes (faults.OpenComment offset) = ⊥
+ScanFault bytes (faults.OpenString offset) = ⊥
+ScanFault bytes (faults.Unbalanced offset) = ⊥
+ScanFault bytes faults.NoPackageClause = ⊥
+ScanFault bytes (faults.BadDeclaration chunk line) = ⊥
+ScanFault bytes (faults.OtherPackage name) = ⊥
+ScanFault bytes faults.FileTooLarge = ⊥
+ScanFault bytes faults.Unread = ⊥
+ScanFault bytes (faults.BadBuildLine line) = ⊥
