@@ -1,0 +1,127 @@
+-- What the front of a rest says of the rest.
+use Rattle.std.proofs.Common.{◌≡◌, ℕ, ◌+◌, ◌<◌, ◌≤◌, Bool, true, false, List, [], ◌∷◌, ◌++◌, length, take, drop, min, refl, sym, ap, ◌∙◌, subst, arith, length-take}
+use Rattle.std.proofs.lemmas.List.{take-append-drop, drop-append-le, take_all, append-nil, length-take-le, take-take}
+use Rattle.std.proofs.Common.{inl, inr, ⊎_elim, ◌⊎◌, length-append}
+use Rattle.std.proofs.lemmas.Bool.{cases_lt, false≢true}
+use Rattle.std.specs.Bool.{IsTrue}
+use Rattle.httparse.specs.Grammar.{RequestHead, print_request, ReadsRequest, HasNoRequest}
+use Rattle.http_wire.specs.declared.request.Request.{Request}
+use Rattle.http_wire.specs.declared.heads.Next.{Next}
+use Rattle.http_wire.specs.declared.heads.Next.TheVariants as answers
+use Rattle.http_wire.specs.Requests.{StreamEnd, BeginsWith, StandsHead, HasNoHead, BreaksRule, IsRefused, breaks_rule, too_long, cut_off, Clean, Bad, Unfinished, Requests, refused, ends, waits, HasGiven, one_more, has_other_byte}
+use Rattle.http_wire.specs.Reading.{Reading, reading, Answers, AnswersOfAll, answer_of}
+use Rattle.http_wire.proofs.StreamLemmas.{front_within, BeginsWith-append, BreaksRule-append, HasNoHead-from_broken, HasNoHead-append_long, HasNoHead-not_begins, Requests_unique, Requests-after_given}
+
+pub begins_from_front : (rest : List ℕ) (n len : ℕ) (request : Request) → len ≤ length (take n rest)
+    → BeginsWith (take n rest) request (drop len (take n rest)) → BeginsWith rest request (drop len rest)
+begins_from_front rest n len request inside x =
+    let whole : take n rest ++ drop n rest ≡ rest = take-append-drop n rest in
+    let left : drop len (take n rest) ++ drop n rest ≡ drop len rest =
+    sym (drop-append-le len (take n rest) (drop n rest) inside) ∙ ap (drop len) whole in
+    subst (λ w. BeginsWith w request (drop len rest)) whole
+    (subst (BeginsWith (take n rest ++ drop n rest) request) left
+    (BeginsWith-append (take n rest) request (drop len (take n rest)) (drop n rest) x))
+
+pub stands_from_front : (rest : List ℕ) (n : ℕ) → StandsHead (take n rest) → StandsHead rest
+stands_from_front rest n x = (
+  x.0,
+  x.1 ++ drop n rest,
+  subst (λ w. BeginsWith w x.0 (x.1 ++ drop n rest)) (take-append-drop n rest)
+      (BeginsWith-append (take n rest) x.0 x.1 (drop n rest) x.2),
+)
+
+pub bad_from_front : (rest : List ℕ) (n : ℕ) (ended : Bool) → BreaksRule (take n rest) → Requests rest ended [] Bad
+bad_from_front rest n ended broken =
+    let here : BreaksRule rest = subst BreaksRule (take-append-drop n rest) (BreaksRule-append (take n rest) (drop n rest) broken) in
+    refused rest ended (HasNoHead-from_broken rest here) (breaks_rule here)
+
+-- ---- no head of the grammar stands in as many first bytes as a head may have
+
+pub no_head_in_rest : (rest : List ℕ) (n : ℕ) → n ≡ min (length rest) 8192 → HasNoRequest (take n rest) → HasNoHead rest
+no_head_in_rest rest n is none =
+    λ head after reads rules.
+    let size = rules.size in
+    let text = print_request head in
+    let whole : length rest ≡ length text + length after = ap length reads.1 ∙ length-append text after in
+    let inside : length text ≤ length (take n rest) = rw (length-take n rest) (omega arith) in
+    none head (drop (length text) (take n rest))
+    (reads.0, front_within (take n rest) (drop n rest) text after (take-append-drop n rest ∙ reads.1) inside)
+
+pub bad_when_over : (rest : List ℕ) (n : ℕ) (ended : Bool) → n ≡ min (length rest) 8192 → HasNoRequest (take n rest)
+    → (8192 ≤ length rest) ⊎ (IsTrue ended × IsTrue (has_other_byte rest)) → Requests rest ended [] Bad
+bad_when_over rest n ended is none over =
+    refused rest ended (no_head_in_rest rest n is none) (⊎_elim too_long (λ both. cut_off both.0 both.1) over)
+
+not_refused : (rest : List ℕ) (n : ℕ) (ended : Bool) → n ≡ min (length rest) 8192 → HasNoRequest (take n rest)
+    → ((8192 ≤ length rest) ⊎ (IsTrue ended × IsTrue (has_other_byte rest)) → ⊥) → IsRefused rest ended → ⊥
+not_refused rest n ended is none sound (breaks_rule broken) =
+    ⊎_elim
+    (λ short.
+    let all : take n rest ≡ rest = take_all n rest (omega arith) in
+    none broken.0 broken.1 (subst (λ w. ReadsRequest w broken.0 broken.1) (sym all) broken.2))
+    (λ long. sound (inl long)) (cases_lt (length rest) 8192)
+not_refused rest n ended is none sound (too_long long) = sound (inl long)
+not_refused rest n ended is none sound (cut_off over other) = sound (inr (over, other))
+
+pub clean_otherwise : (rest : List ℕ) (n : ℕ) (ended : Bool) → n ≡ min (length rest) 8192 → HasNoRequest (take n rest)
+    → ((8192 ≤ length rest) ⊎ (IsTrue ended × IsTrue (has_other_byte rest)) → ⊥) → ended ≡ true
+    → Requests rest ended [] Clean
+clean_otherwise rest n true is none sound over = ends rest (no_head_in_rest rest n is none) (not_refused rest n true is none sound)
+clean_otherwise rest n false is none sound over = absurd (false≢true over)
+
+pub unfinished_otherwise : (rest : List ℕ) (n : ℕ) (ended : Bool) → n ≡ min (length rest) 8192 → HasNoRequest (take n rest)
+    → ((8192 ≤ length rest) ⊎ (IsTrue ended × IsTrue (has_other_byte rest)) → ⊥) → ended ≡ false
+    → Requests rest ended [] Unfinished
+unfinished_otherwise rest n false is none sound open_still = waits rest (no_head_in_rest rest n is none) (not_refused rest n false is none sound)
+unfinished_otherwise rest n true is none sound open_still = absurd (false≢true (sym open_still))
+
+-- ---- all that was fed
+
+with_end : (old : Reading) (left fed : List ℕ) (given : List Request) (end : StreamEnd)
+    → (left ≡ old.rest) × Requests old.rest old.ended [] end → HasGiven fed given old.rest
+    → HasGiven fed given left × Requests fed old.ended given end
+with_end old left fed given end answer before = (
+  subst (HasGiven fed given) (sym answer.0) before,
+  subst (λ w. Requests fed old.ended w end) (append-nil given)
+      (Requests-after_given fed old.rest old.ended given [] end before answer.1),
+)
+
+pub answers_of_all : (old : Reading) (next : Next) (left fed : List ℕ) (given : List Request)
+    → Answers old next left → HasGiven fed given old.rest → AnswersOfAll fed given old.ended next left
+answers_of_all old (answers.Head request) left fed given answer before =
+    one_more given old.rest request left before answer
+answers_of_all old answers.More left fed given answer before = with_end old left fed given Unfinished answer before
+answers_of_all old answers.Clean left fed given answer before = with_end old left fed given Clean answer before
+answers_of_all old answers.Bad left fed given answer before = with_end old left fed given Bad answer before
+
+pub short_while_unfinished : (rest : List ℕ) (ended : Bool) → Requests rest ended [] Unfinished → length rest < 8192
+short_while_unfinished rest _ (waits _ none sound) =
+    ⊎_elim (λ short. short) (λ long. absurd (sound (too_long long))) (cases_lt (length rest) 8192)
+
+pub short_after_more : (old : Reading) (next : Next) (left : List ℕ) → Answers old next left → next ≡ answers.More
+    → length left < 8192
+short_after_more old next left answer is =
+    let more : Answers old answers.More left = subst (λ w. Answers old w left) is answer in
+    subst (λ w. length w < 8192) (sym more.0) (short_while_unfinished old.rest old.ended more.1)
+
+-- ---- the answer is the only one
+
+pub no_head_at_end : (rest : List ℕ) (ended : Bool) (end : StreamEnd) → Requests rest ended [] end → HasNoHead rest
+no_head_at_end rest _ _ (refused _ _ none why) = none
+no_head_at_end rest _ _ (ends _ none sound) = none
+no_head_at_end rest _ _ (waits _ none sound) = none
+
+pub answer_is : (old : Reading) (next : Next) (left : List ℕ) (end : StreamEnd) → Answers old next left
+    → Requests old.rest old.ended [] end → next ≡ answer_of end
+answer_is old (answers.Head request) left end answer all =
+    absurd (HasNoHead-not_begins old.rest request left (no_head_at_end old.rest old.ended end all) answer)
+answer_is old answers.More left end answer all =
+    ap answer_of (Requests_unique old.rest old.ended [] [] Unfinished end answer.1 all).1
+answer_is old answers.Clean left end answer all =
+    ap answer_of (Requests_unique old.rest old.ended [] [] Clean end answer.1 all).1
+answer_is old answers.Bad left end answer all =
+    ap answer_of (Requests_unique old.rest old.ended [] [] Bad end answer.1 all).1
+
+pub no_end_at_head : (rest : List ℕ) (ended : Bool) (end : StreamEnd) → StandsHead rest → Requests rest ended [] end → ⊥
+no_end_at_head rest ended end stands all =
+    HasNoHead-not_begins rest stands.0 stands.1 (no_head_at_end rest ended end all) stands.2

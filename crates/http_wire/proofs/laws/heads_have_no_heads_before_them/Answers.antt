@@ -1,0 +1,5 @@
+use Rattle.http_wire.proofs.StreamLemmas.{IsHead_prefix_free}
+use Rattle.http_wire.proofs.laws.heads_have_no_heads_before_them.Goals as goal
+
+pub returns : goal.returns
+returns c = IsHead_prefix_free

@@ -1,0 +1,5 @@
+pub mod Front
+pub mod Head
+pub mod Reading
+pub mod Reply
+pub mod Requests

@@ -1,0 +1,33 @@
+//! Laws of the requests in a stream. The functions do nothing: each contract is a law.
+
+ghost use Rattle.std.specs.Prelude.{◌≡◌, ℕ, Bool, false, List, [], ◌++◌};
+ghost use Rattle.http_wire.specs.declared.request.Request.{Request};
+ghost use Rattle.http_wire.specs.Requests.{IsHead, HasGiven, Requests, StreamEnd, Bad};
+
+/// No head has a proper prefix that is a head.
+pub fn heads_have_no_heads_before_them()
+    ensures { (text more : List ℕ) → IsHead text → IsHead (text ++ more) → more ≡ [] }
+{}
+
+/// A stream has one list of requests, and one end.
+pub fn requests_are_unique()
+    ensures { (stream : List ℕ) (ended : Bool) (these those : List Request) (end other : StreamEnd)
+        → Requests stream ended these end → Requests stream ended those other
+        → (these ≡ those) × (end ≡ other) }
+{}
+
+/// A stream is refused for good: neither more bytes nor the end of the input change that.
+pub fn a_bad_stream_stays_bad()
+    ensures { (stream more : List ℕ) (ended : Bool) (requests : List Request)
+        → Requests stream false requests Bad → Requests (stream ++ more) ended requests Bad }
+{}
+
+/// The requests are the same however the stream is cut. What was given stays given when more is fed, and
+/// with the requests in the rest it makes the requests in the whole stream.
+pub fn requests_do_not_depend_on_the_cut()
+    ensures more { (fed more rest : List ℕ) (given : List Request)
+        → HasGiven fed given rest → HasGiven (fed ++ more) given (rest ++ more) }
+    ensures whole { (fed rest : List ℕ) (ended : Bool) (given requests : List Request) (end : StreamEnd)
+        → HasGiven fed given rest → Requests rest ended requests end
+        → Requests fed ended (given ++ requests) end }
+{}

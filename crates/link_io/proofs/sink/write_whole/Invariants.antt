@@ -1,0 +1,16 @@
+-- So many first bytes of the piece were added.
+use Rattle.std.proofs.Common.{◌≡◌, ◌≤◌, ◌-◌, length, take}
+use Rattle.link_io.specs.Streams.{Adds}
+use Rattle.link_io.proofs.sink.write_whole.Given as goal
+
+abbrev pub invariant-loop-written : goal.invariant-loop-written
+invariant-loop-written g l = record {
+  within : l.written ≤ length l.piece;
+  added : Adds (g.O.Sink.held l.initial.out) (take l.written l.piece) (g.O.Sink.held l.out);
+  later : g.O.Sink.write_faults l.initial.out ≤ g.O.Sink.write_faults l.out;
+  alone : g.O.Sink.beside l.out ≡ g.O.Sink.beside l.initial.out;
+  same_references : g.O.Sink.references l.out ≡ g.O.Sink.references l.initial.out;
+}
+
+abbrev pub decreases-loop-written : goal.decreases-loop-written
+decreases-loop-written g l = length l.initial.piece - l.written

@@ -1,0 +1,297 @@
+//! Sources, sinks and links in memory, which tell all: their bytes, and which of their calls fail.
+
+ghost use Rattle.std.specs.Prelude.{◌≡◌, ℕ, ◌+◌, ◌-◌, ◌<◌, ◌≤◌, ◌↔◌, ◌⊎◌, ◌++◌, [], length, take, drop, min, IfOk, IfSome, OnOk, OnErr, IsTrue, IsErr, MatchResult, None};
+ghost use Rattle.go_ast.specs.Causes.{HasCause};
+ghost use Rattle.link_io.specs.Memory.{Fails, Reads, Writes, held_of, left_of, one_more, stop_of};
+ghost use Rattle.link_io.specs.Streams.{Takes, Adds};
+
+use crate::link::Link;
+use crate::sink::Sink;
+use crate::source::Source;
+use go_ast::Failed;
+use std::alloc::Global;
+use std::marker::Model;
+
+/// A source in memory. Its reads are numbered from 1, up to 2 ^ 64 - 1, where the number stands still.
+#[derive(Debug, Drop)]
+pub struct MemSource {
+    bytes: Vec<u8>,
+    position: usize,
+    cuts: Vec<u64>,
+    failing: Vec<u64>,
+    reads: u64,
+    faults: u64,
+}
+
+impl Model for MemSource {
+    ghost use Rattle.std.specs.Prelude.{◌≤◌, length};
+    ghost use Rattle.link_io.specs.Memory.{SourceState};
+
+    ghost Value = { SourceState };
+
+    ghost view = { λ source. record { bytes = source.bytes.items; position = source.position; cuts = source.cuts.items; failing = source.failing.items; calls = source.reads; faults = source.faults } };
+
+    ghost invariant = { λ source. source.position ≤ length source.bytes.items };
+}
+
+impl MemSource {
+    /// A source of these bytes. `cuts` are byte offsets from the start that no read passes, and `failing`
+    /// the numbers of the reads that fail; either list may stand in any order. It takes no memory.
+    pub fn new(bytes: Vec<u8>, cuts: Vec<u64>, failing: Vec<u64>) -> MemSource
+        ensures { result ≡ record { bytes = bytes.items; position = 0; cuts = cuts.items; failing = failing.items; calls = 0; faults = 0 } }
+    {
+        MemSource {
+            bytes,
+            position: 0,
+            cuts,
+            failing,
+            reads: 0,
+            faults: 0,
+        }
+    }
+}
+
+impl Source for MemSource {
+    ghost left = { left_of };
+
+    ghost read_faults = { λ source. source.faults };
+
+    ghost beside = { λ _. record { bytes = None; faults = 0 } };
+
+    ghost references = { λ _. [] };
+
+    /// Moves as many bytes as the buffer takes, up to the next cut or the end. It fails exactly where its
+    /// number is one of those that fail, or 2 ^ 64 - 1. What stands behind the bytes in the buffer stays.
+    fn read(&mut self, buf: &mut [u8]) -> Result<usize, Failed>
+        ensures reads { Reads self.old self.new buf.old buf.new result }
+
+        // What every source says.
+        ensures count { IfOk result (λ n. n ≤ length buf.new) }
+        ensures taken { IfOk result (λ n. Takes (left_of self.old) (take n buf.new) (left_of self.new)) }
+        ensures end { IfOk result (λ n. 0 < length buf.new → IfSome (left_of self.old) (λ bytes. (n ≡ 0) ↔ (bytes ≡ []))) }
+        ensures failed { OnErr result (left_of self.new ≡ left_of self.old) }
+        ensures cause { HasCause self.old.faults self.new.faults result }
+    {
+        count_call(&mut self.reads, &mut self.faults, &self.failing)?;
+        let count = move_bytes(&self.bytes, self.position, &self.cuts, buf);
+        self.position += count;
+        Ok(count)
+    }
+}
+
+/// A sink in memory. Its writes are numbered from 1, up to 2 ^ 64 - 1, where the number stands still.
+#[derive(Debug, Drop)]
+pub struct MemSink {
+    held: Vec<u8>,
+    most: usize,
+    failing: Vec<u64>,
+    writes: u64,
+    faults: u64,
+}
+
+impl Model for MemSink {
+    ghost use Rattle.std.specs.Prelude.{◌<◌, vec_capacity};
+    ghost use Rattle.link_io.specs.Memory.{SinkState};
+
+    ghost Value = { SinkState };
+
+    ghost view = { λ sink. record { held = sink.held.items; room = vec_capacity sink.held; most = sink.most; failing = sink.failing.items; calls = sink.writes; faults = sink.faults } };
+
+    ghost invariant = { λ sink. 0 < sink.most };
+}
+
+impl MemSink {
+    /// An empty sink that takes at most `most` bytes a write. `failing` are the numbers of the writes that
+    /// fail, in any order. It takes no memory until it grows.
+    pub fn new(alloc: Global, most: usize, failing: Vec<u64>) -> MemSink
+        requires { 0 < most }
+        ensures { (room : ℕ) × (result ≡ record { held = []; room = room; most = most; failing = failing.items; calls = 0; faults = 0 }) }
+    {
+        MemSink {
+            held: Vec::new(alloc),
+            most,
+            failing,
+            writes: 0,
+            faults: 0,
+        }
+    }
+
+    /// The bytes that were written, in their order. It takes no memory.
+    pub fn held(&self) -> &[u8]
+        ensures { result.now ≡ self.now.held }
+    {
+        self.held.as_slice()
+    }
+}
+
+impl Sink for MemSink {
+    ghost held = { held_of };
+
+    ghost write_faults = { λ sink. sink.faults };
+
+    ghost beside = { λ _. record { bytes = None; faults = 0 } };
+
+    ghost references = { λ _. [] };
+
+    /// Takes the piece, or as many of its first bytes as one write takes. It fails where its number is one
+    /// of those that fail, or 2 ^ 64 - 1; else only where the bytes that are held have to grow and find no
+    /// memory, which is a counted fault as well.
+    fn write(&mut self, piece: &[u8]) -> Result<usize, Failed>
+        ensures writes { Writes self.old self.new piece.now result }
+
+        // What every sink says.
+        ensures count { IfOk result (λ n. n ≤ length piece.now) }
+        ensures progress { IfOk result (λ n. 0 < length piece.now → 0 < n) }
+        ensures added { IfOk result (λ n. Adds (held_of self.old) (take n piece.now) (held_of self.new)) }
+        ensures failed { OnErr result (held_of self.new ≡ held_of self.old) }
+        ensures cause { HasCause self.old.faults self.new.faults result }
+    {
+        count_call(&mut self.writes, &mut self.faults, &self.failing)?;
+        let count = piece.len().min(self.most);
+        if self.held.extend_from_slice(&piece[..count]).is_err() {
+            self.faults = self.faults.saturating_add(1);
+            return Err(Failed);
+        }
+        Ok(count)
+    }
+}
+
+/// A link in memory: the peer's bytes come from a source, and what is written goes to a sink.
+#[derive(Debug, Drop)]
+pub struct MemLink {
+    source: MemSource,
+    sink: MemSink,
+}
+
+impl Model for MemLink {
+    ghost use Rattle.link_io.specs.Memory.{LinkState};
+
+    ghost Value = { LinkState };
+
+    ghost view = { λ link. record { source = link.source; sink = link.sink } };
+}
+
+impl MemLink {
+    /// A link of these two. It takes no memory.
+    pub fn new(source: MemSource, sink: MemSink) -> MemLink
+        ensures { result ≡ record { source = source; sink = sink } }
+    {
+        MemLink { source, sink }
+    }
+
+    /// The bytes that were written, in their order. It takes no memory.
+    pub fn held(&self) -> &[u8]
+        ensures { result.now ≡ self.now.sink.held }
+    {
+        self.sink.held()
+    }
+}
+
+impl Source for MemLink {
+    ghost left = { λ link. left_of link.source };
+
+    ghost read_faults = { λ link. link.source.faults };
+
+    ghost beside = { λ link. record { bytes = held_of link.sink; faults = link.sink.faults } };
+
+    ghost references = { λ _. [] };
+
+    /// Reads from the link's source, and leaves its sink.
+    fn read(&mut self, buf: &mut [u8]) -> Result<usize, Failed>
+        ensures reads { Reads self.old.source self.new.source buf.old buf.new result }
+        ensures sink { self.new.sink ≡ self.old.sink }
+
+        // What every source says.
+        ensures count { IfOk result (λ n. n ≤ length buf.new) }
+        ensures taken { IfOk result (λ n. Takes (left_of self.old.source) (take n buf.new) (left_of self.new.source)) }
+        ensures end { IfOk result (λ n. 0 < length buf.new → IfSome (left_of self.old.source) (λ bytes. (n ≡ 0) ↔ (bytes ≡ []))) }
+        ensures failed { OnErr result (left_of self.new.source ≡ left_of self.old.source) }
+        ensures cause { HasCause self.old.source.faults self.new.source.faults result }
+    {
+        self.source.read(buf)
+    }
+}
+
+impl Sink for MemLink {
+    ghost held = { λ link. held_of link.sink };
+
+    ghost write_faults = { λ link. link.sink.faults };
+
+    ghost beside = { λ link. record { bytes = left_of link.source; faults = link.source.faults } };
+
+    ghost references = { λ _. [] };
+
+    /// Writes to the link's sink, and leaves its source.
+    fn write(&mut self, piece: &[u8]) -> Result<usize, Failed>
+        ensures writes { Writes self.old.sink self.new.sink piece.now result }
+        ensures source { self.new.source ≡ self.old.source }
+
+        // What every sink says.
+        ensures count { IfOk result (λ n. n ≤ length piece.now) }
+        ensures progress { IfOk result (λ n. 0 < length piece.now → 0 < n) }
+        ensures added { IfOk result (λ n. Adds (held_of self.old.sink) (take n piece.now) (held_of self.new.sink)) }
+        ensures failed { OnErr result (held_of self.new.sink ≡ held_of self.old.sink) }
+        ensures cause { HasCause self.old.sink.faults self.new.sink.faults result }
+    {
+        self.sink.write(piece)
+    }
+}
+
+impl Link for MemLink {
+    ghost use Rattle.std.specs.Prelude.{refl};
+
+    ghost read_leaves = { λ _. refl };
+
+    ghost write_leaves = { λ _. refl };
+
+    ghost one_place = { λ _. refl };
+}
+
+// Counts a call, and its failure where its number is one of those that fail.
+fn count_call(calls: &mut u64, faults: &mut u64, failing: &[u64]) -> Result<(), Failed>
+    ensures calls { calls.new ≡ one_more calls.old }
+    ensures fails { IsErr result ↔ Fails failing.now (one_more calls.old) }
+    ensures faults { MatchResult result (λ _. faults.new ≡ faults.old) (λ _. faults.new ≡ one_more faults.old) }
+{
+    *calls = calls.saturating_add(1);
+    if *calls == u64::MAX || failing.contains(calls) {
+        *faults = faults.saturating_add(1);
+        return Err(Failed);
+    }
+    Ok(())
+}
+
+// Moves bytes from a place on to the front of a buffer, up to the next cut.
+#[tactic(auto, using(crate::proofs::Stops::moved))]
+fn move_bytes(bytes: &[u8], position: usize, cuts: &[u64], buf: &mut [u8]) -> usize
+    requires { position ≤ length bytes.now }
+    ensures count { result ≡ min (length buf.old) (stop_of position cuts.now (length bytes.now) - position) }
+    ensures moved { buf.new ≡ take result (drop position bytes.now) ++ drop result buf.old }
+    ensures within { position + result ≤ length bytes.now }
+    ensures rest { drop position bytes.now ≡ take result buf.new ++ drop (position + result) bytes.now }
+    ensures end { 0 < length buf.old → ((result ≡ 0) ↔ (drop position bytes.now ≡ [])) }
+{
+    let count = count_to_stop(position, cuts, bytes.len(), buf.len());
+    buf[..count].copy_from_slice(&bytes[position..position + count]);
+    count
+}
+
+// How many bytes a read from a place on moves into a buffer of this length.
+fn count_to_stop(position: usize, cuts: &[u64], end: usize, room: usize) -> usize
+    requires { position ≤ end }
+    ensures count { result ≡ min room (stop_of position cuts.now end - position) }
+    ensures within { position + result ≤ end }
+    ensures progress { 0 < room → position < end → 0 < result }
+{
+    let stop = stop_behind(position, cuts, end);
+    room.min(stop - position)
+}
+
+// Where a read from a place on stops at the latest.
+fn stop_behind(position: usize, cuts: &[u64], end: usize) -> usize
+    ensures { result ≡ stop_of position cuts.now end }
+{
+    cuts.iter()
+        .filter(|cut| position < **cut as usize)
+        .fold(end, |stop, cut| stop.min(*cut as usize))
+}

@@ -1,0 +1,4 @@
+pub mod Segments
+pub mod FileMaps
+pub mod Reading
+pub mod Dedup

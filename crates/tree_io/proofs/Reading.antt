@@ -1,0 +1,121 @@
+-- What reading the listed paths one after another gives: sources that are scanned from the contents.
+use Rattle.std.proofs.Common.{◌≡◌, ℕ, ◌+◌, ◌<◌, ◌≤◌, Bool, true, false, cond, Option, Some, None, IfSome, IsSome, List, [], ◌∷◌, ◌++◌, length, get_or, All, inl, inr, refl, ap, ◌∙◌, subst, arith}
+use Rattle.std.specs.Option.{ForSome}
+use Rattle.std.specs.Str.{bytes_eq}
+use Rattle.std.proofs.lemmas.Bool.{false≢true}
+use Rattle.std.proofs.lemmas.Option.{none-some}
+use Rattle.std.proofs.lemmas.List.Elements.{All-nil, All-push}
+use Rattle.std.proofs.lemmas.List.Sums.{fold_push}
+use Rattle.std.proofs.lemmas.Slice.Eq.{bytes_eq-Decides}
+use Prim.Native.Nat.{zero, suc}
+use Rattle.go_ast.specs.Causes.{Rose, RoseBy}
+use Rattle.tree_io.specs.Path.{Belongs, IsRising, paths_of}
+use Rattle.tree_io.specs.Sources.{Contents, Sources, IsFrom, IsScannedFrom, IsSources, bytes_at, entry_of, is_unread, unread_count, IsReadable}
+use Rattle.tree_io.specs.Scans.{under_way}
+use Rattle.tree_io.specs.declared.tree.Entry.{Entry}
+use Rattle.tree_io.specs.declared.tree.Entry.TheVariants.{Bytes, Large, Unread}
+
+-- the sources that reads of these paths have given, while the count of read faults went from before to now
+pub record IsReadSoFar (scans : Option (List Contents)) (paths : List (List ℕ)) (sources : Sources) (before now : ℕ) : Type 0 where
+  pub same_paths : paths_of sources ≡ paths
+  pub entries : IfSome scans (λ told. All (IsFrom (under_way told)) sources)
+  pub few_unread : RoseBy (unread_count sources) before now
+
+-- the list's clause `told`
+abbrev pub IsListed : Option (List Contents) → List (List ℕ) → Type 0
+IsListed scans paths = IfSome scans (λ told. paths ≡ paths_of (under_way told))
+
+-- the read's clause `told`
+abbrev pub IsReadAs : Option (List Contents) → List ℕ → Entry → Type 0
+IsReadAs scans path entry = IfSome scans (λ told. IfSome (bytes_at (under_way told) path) (λ bytes. entry ≡ entry_of bytes))
+
+-- before the first read
+pub IsReadSoFar-none : (scans : Option (List Contents)) (before now : ℕ) → before ≤ now → IsReadSoFar scans [] [] before now
+IsReadSoFar-none None before now later = record { same_paths = refl; entries = tt; few_unread = omega arith }
+IsReadSoFar-none (Some told) before now later = record { same_paths = refl; entries = All-nil (IsFrom (under_way told)); few_unread = omega arith }
+
+paths_of-push : (sources : Sources) (path : List ℕ) (entry : Entry) → paths_of (sources ++ (path, entry) ∷ []) ≡ paths_of sources ++ path ∷ []
+paths_of-push [] path entry = refl
+paths_of-push (s ∷ sources) path entry = ap (λ rest. s.0 ∷ rest) (paths_of-push sources path entry)
+
+unread_count-push : (sources : Sources) (path : List ℕ) (entry : Entry) → unread_count (sources ++ (path, entry) ∷ []) ≡ unread_count sources + cond (is_unread entry) 1 0
+unread_count-push sources path entry = fold_push (λ (a : ℕ) (source : List ℕ × Entry). a + cond (is_unread source.1) 1 0) 0 sources (path, entry)
+
+entries-push : (scans : Option (List Contents)) (sources : Sources) (path : List ℕ) (entry : Entry)
+    → IfSome scans (λ told. All (IsFrom (under_way told)) sources) → IfSome scans (λ told. IsFrom (under_way told) (path, entry)) → IfSome scans (λ told. All (IsFrom (under_way told)) (sources ++ (path, entry) ∷ []))
+entries-push None sources path entry before next = tt
+entries-push (Some told) sources path entry before next = All-push (IsFrom (under_way told)) sources (path, entry) before next
+
+from_read : (contents : Contents) (path : List ℕ) (entry : Entry) (bytes : Option (List ℕ)) → bytes_at contents path ≡ bytes → IsSome bytes → IfSome bytes (λ b. entry ≡ entry_of b) → IsFrom contents (path, entry)
+from_read contents path entry None at known read = absurd (false≢true known)
+from_read contents path entry (Some bytes) at known read = inr (rw at read)
+
+next_read : (scans : Option (List Contents)) (path : List ℕ) (entry : Entry) → ForSome scans (λ told. IsSome (bytes_at (under_way told) path)) → IsReadAs scans path entry → IfSome scans (λ told. IsFrom (under_way told) (path, entry))
+next_read None path entry known read = tt
+next_read (Some told) path entry known read = from_read (under_way told) path entry (bytes_at (under_way told) path) refl (known told refl) read
+
+next_unread : (scans : Option (List Contents)) (path : List ℕ) → IfSome scans (λ told. IsFrom (under_way told) (path, Unread))
+next_unread None path = tt
+next_unread (Some told) path = inl refl
+
+read_is_not_unread : (entry : Entry) → IsReadable entry → is_unread entry ≡ false
+read_is_not_unread (Bytes bytes) readable = refl
+read_is_not_unread Large readable = refl
+read_is_not_unread Unread readable = absurd readable
+
+-- after a read that gave an entry
+pub IsReadSoFar-read : (scans : Option (List Contents)) (paths : List (List ℕ)) (sources : Sources) (before middle now : ℕ) (path : List ℕ) (entry : Entry)
+    → IsReadSoFar scans paths sources before middle → middle ≤ now → ForSome scans (λ told. IsSome (bytes_at (under_way told) path)) → IsReadable entry → IsReadAs scans path entry
+    → IsReadSoFar scans (paths ++ path ∷ []) (sources ++ (path, entry) ∷ []) before now
+IsReadSoFar-read scans paths sources before middle now path entry so_far later known readable read =
+    let count : unread_count (sources ++ (path, entry) ∷ []) ≡ unread_count sources = rw (unread_count-push sources path entry, read_is_not_unread entry readable) (omega arith) in
+    record {
+      same_paths = paths_of-push sources path entry ∙ ap (λ (ps : List (List ℕ)). ps ++ path ∷ []) so_far.same_paths;
+      entries = entries-push scans sources path entry so_far.entries (next_read scans path entry known read);
+      few_unread = rw count (omega (arith, so_far.few_unread));
+    }
+
+-- after a read that failed
+pub IsReadSoFar-failed : (scans : Option (List Contents)) (paths : List (List ℕ)) (sources : Sources) (before middle now : ℕ) (path : List ℕ)
+    → IsReadSoFar scans paths sources before middle → Rose middle now
+    → IsReadSoFar scans (paths ++ path ∷ []) (sources ++ (path, Unread) ∷ []) before now
+IsReadSoFar-failed scans paths sources before middle now path so_far rose =
+    let count : unread_count (sources ++ (path, Unread) ∷ []) ≡ unread_count sources + 1 = unread_count-push sources path Unread in
+    record {
+      same_paths = paths_of-push sources path Unread ∙ ap (λ (ps : List (List ℕ)). ps ++ path ∷ []) so_far.same_paths;
+      entries = entries-push scans sources path Unread so_far.entries (next_unread scans path);
+      few_unread = rw count (omega (arith, so_far.few_unread));
+    }
+
+-- when all listed paths were read
+pub IsScannedFrom-read : (scans : Option (List Contents)) (paths : List (List ℕ)) (sources : Sources) (before now : ℕ)
+    → IsListed scans paths → IsReadSoFar scans paths sources before now → IfSome scans (λ told. IsScannedFrom sources (under_way told) before now)
+IsScannedFrom-read None paths sources before now listed read = tt
+IsScannedFrom-read (Some told) paths sources before now listed read = record {
+  same_paths = read.same_paths ∙ listed;
+  entries = read.entries;
+  few_unread = read.few_unread;
+}
+
+-- what was read of the listed paths is a set of sources
+pub IsSources-read : (scans : Option (List Contents)) (paths : List (List ℕ)) (sources : Sources) (before now : ℕ)
+    → All Belongs paths → IsRising paths → IsReadSoFar scans paths sources before now → IsSources sources
+IsSources-read scans paths sources before now belong rising read = record { belong = rw read.same_paths belong; rising = rw read.same_paths rising }
+
+some_either : (b : Bool) (bytes : List ℕ) (rest : Option (List ℕ)) → IsSome rest → IsSome (cond b (Some bytes) rest)
+some_either true bytes rest some = refl
+some_either false bytes rest some = some
+
+found : (contents : Contents) (i : ℕ) (d : List ℕ) → i < length (paths_of contents) → IsSome (bytes_at contents (get_or (paths_of contents) i d))
+found [] i d below = absurd (omega arith)
+found (file ∷ contents) zero d below = rw ((bytes_eq-Decides file.0 file.0).1 refl)
+found (file ∷ contents) (suc i) d below = some_either (bytes_eq (get_or (paths_of contents) i d) file.0) file.1 _ (found contents i d (omega arith))
+
+-- what a read of a listed path requires
+pub listed_path_is_known : (scans : Option (List Contents)) (paths : List (List ℕ)) (i : ℕ) (d : List ℕ) → IsListed scans paths → i < length paths
+    → ForSome scans (λ told. IsSome (bytes_at (under_way told) (get_or paths i d)))
+listed_path_is_known None paths i d listed below = λ told is. absurd (none-some told is)
+listed_path_is_known (Some told) paths i d listed below = λ scans is.
+    let same : told ≡ scans = cc in
+    let known : IsSome (bytes_at (under_way told) (get_or paths i d)) = rw listed (found (under_way told) i d (subst (λ (ps : List (List ℕ)). i < length ps) listed below)) in
+    subst (λ (now : List Contents). IsSome (bytes_at (under_way now) (get_or paths i d))) same known

@@ -1,0 +1,6 @@
+pub mod Path
+pub mod Sources
+pub mod Scans
+pub mod MemTree
+pub mod Files
+pub mod FsTree

@@ -1,0 +1,51 @@
+-- Which paths belong to a tree of Go sources, and in what order they stand. The rule is the project's own.
+use Rattle.std.specs.Prelude.{◌≢◌, ℕ, ◌-◌, ◌<◌, ◌≤◌, ◌==◌, List, length, take, map, All, IsTrue, codes, slice_index, nat_eq}
+use Rattle.std.specs.List.{slice_split, ends_with}
+use Rattle.std.specs.List.Sorted.{IsStrictlySortedBy}
+use Rattle.std.specs.Cmp.Lexicographic.{slice_cmp}
+use Rattle.std.specs.Ordering.{nat_cmp}
+use Rattle.tree_io.specs.declared.path.TheConstants.{MAX_PATH_BYTES}
+
+-- the segments of a path, between its slashes
+abbrev pub segments_of : List ℕ → List (List ℕ)
+segments_of path = slice_split (λ b. b == 47) path
+
+-- the segments that name folders: all but the last
+abbrev pub folders_of : List ℕ → List (List ℕ)
+folders_of path = take (length (segments_of path) - 1) (segments_of path)
+
+-- a byte that a path may have: no control character of ASCII
+abbrev pub IsPathByte : ℕ → Type 0
+IsPathByte b = (32 ≤ b) × (b ≢ 127)
+
+-- a segment that is not empty, and begins with neither `.` nor `_`
+pub record IsPlainSegment (segment : List ℕ) : Type 0 where
+  pub not_empty : 0 < length segment
+  pub no_dot : slice_index segment 0 ≢ 46
+  pub no_underscore : slice_index segment 0 ≢ 95
+
+-- a folder whose files belong
+pub record IsSourceFolder (segment : List ℕ) : Type 0 where
+  pub no_vendor : segment ≢ codes "vendor"
+  pub no_testdata : segment ≢ codes "testdata"
+
+-- a path of a Go file under the root
+pub record Belongs (path : List ℕ) : Type 0 where
+  pub go_file : IsTrue (ends_with nat_eq path (codes ".go"))
+  pub short : length path ≤ MAX_PATH_BYTES
+  pub printable : All IsPathByte path
+  pub segments : All IsPlainSegment (segments_of path)
+  pub folders : All IsSourceFolder (folders_of path)
+
+-- each path is below those after it, by their bytes
+abbrev pub IsRising : List (List ℕ) → Type 0
+IsRising paths = IsStrictlySortedBy (slice_cmp nat_cmp) paths
+
+-- the paths of pairs, alone
+abbrev pub paths_of : {X : Type 0} → List (List ℕ × X) → List (List ℕ)
+paths_of pairs = map (λ pair. pair.0) pairs
+
+-- the paths of pairs belong, and rise strictly by bytes
+pub record HasSourcePaths {X : Type 0} (pairs : List (List ℕ × X)) : Type 0 where
+  pub belong : All Belongs (paths_of pairs)
+  pub rising : IsRising (paths_of pairs)

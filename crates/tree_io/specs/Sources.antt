@@ -1,0 +1,54 @@
+-- The contents of a tree, the sources that a scan of them gives, and what ties the two. All this is the project's own.
+use Rattle.std.specs.Prelude.{◌≡◌, ℕ, ◌≤◌, Bool, true, false, List, length, Option, All, IsSomeAnd, ◌⊎◌, count_by, if◌then◌else◌, nat_lt}
+use Rattle.std.specs.Map.{lookup}
+use Rattle.std.specs.Str.{bytes_eq}
+use Rattle.go_ast.specs.Causes.{RoseBy}
+use Rattle.tree_io.specs.Path.{paths_of, HasSourcePaths}
+use Rattle.tree_io.specs.declared.tree.TheConstants.{MAX_FILE_BYTES}
+use Rattle.tree_io.specs.declared.tree.Entry.{Entry}
+use Rattle.tree_io.specs.declared.tree.Entry.TheVariants.{Bytes, Large, Unread}
+
+-- paths, each with the bytes of its file
+abbrev pub Contents : Type 0
+Contents = List (List ℕ × List ℕ)
+
+-- paths, each with what a scan has of its file
+abbrev pub Sources : Type 0
+Sources = List (List ℕ × Entry)
+
+-- a set of sources: its paths belong, and rise strictly by bytes
+abbrev pub IsSources : Sources → Type 0
+IsSources sources = HasSourcePaths sources
+
+-- the bytes at the first place of a path
+abbrev pub bytes_at : Contents → List ℕ → Option (List ℕ)
+bytes_at contents path = lookup (bytes_eq path) contents
+
+-- what a read of these bytes gives
+abbrev pub entry_of : List ℕ → Entry
+entry_of bytes = if nat_lt MAX_FILE_BYTES (length bytes) then Large else Bytes bytes
+
+-- an entry that a read can give
+abbrev pub IsReadable : Entry → Type 0
+IsReadable (Bytes bytes) = length bytes ≤ MAX_FILE_BYTES
+IsReadable Large = Unit {0}
+IsReadable Unread = ⊥
+
+abbrev pub is_unread : Entry → Bool
+is_unread (Bytes bytes) = false
+is_unread Large = false
+is_unread Unread = true
+
+-- how many entries are `Unread`
+abbrev pub unread_count : Sources → ℕ
+unread_count sources = count_by (λ source. is_unread source.1) sources
+
+-- a path with its entry, after a scan of the contents: `Unread`, or what the contents have there
+abbrev pub IsFrom : Contents → List ℕ × Entry → Type 0
+IsFrom contents source = (source.1 ≡ Unread) ⊎ IsSomeAnd (bytes_at contents source.0) (λ bytes. source.1 ≡ entry_of bytes)
+
+-- sources that a scan of the contents gives, during which the count of read faults went from before to now
+pub record IsScannedFrom (sources : Sources) (contents : Contents) (before now : ℕ) : Type 0 where
+  pub same_paths : paths_of sources ≡ paths_of contents
+  pub entries : All (IsFrom contents) sources
+  pub few_unread : RoseBy (unread_count sources) before now

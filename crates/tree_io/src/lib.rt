@@ -1,0 +1,21 @@
+//! Trees of Go files: what a tree answers, one in memory, and one in a real folder.
+//!
+//! A [`Tree`] is scanned by opening a scan, listing its paths and reading them. Its contracts speak of the
+//! contents of the scans opened so far, where a tree tells them, and of two counts of faults.
+#![tactic(auto)]
+
+mod calls;
+mod files;
+mod folder;
+mod memory;
+mod path;
+mod tree;
+mod walk;
+
+pub use folder::FsTree;
+pub use memory::MemTree;
+pub use path::{MAX_PATH_BYTES, belongs};
+pub use tree::{Entry, MAX_FILE_BYTES, Tree};
+
+#[cfg(test)]
+mod tests;
