@@ -7,6 +7,8 @@
 mod errors;
 mod fault;
 mod sequence;
+#[cfg(test)]
+mod tests;
 mod token;
 
 pub use errors::{Failed, IoFail, Mem, NoMemory};

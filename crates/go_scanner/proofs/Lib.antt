@@ -1,0 +1,11 @@
+pub mod ItemShapes
+pub mod Marks
+pub mod Newlines
+pub mod OneReading
+pub mod Progress
+pub mod Refusals
+pub mod Runs
+pub mod Spans
+pub mod Standing
+pub mod Utf8
+pub mod Words

@@ -1,1 +1,4 @@
+pub mod Answers
+pub mod Marks
 pub mod Shapes
+pub mod Steps

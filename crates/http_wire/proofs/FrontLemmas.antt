@@ -1,19 +1,14 @@
 -- What the parser's answer says of the front of a stream.
-use Rattle.std.proofs.Common.{◌≡◌, ℕ, ◌+◌, ◌*◌, ◌<◌, ◌≤◌, ◌↔◌, List, [], ◌∷◌, ◌++◌, length, take, drop, map, refl, sym, ap, ◌∙◌, subst, arith, length-append, Result, Ok, Err}
-use Rattle.std.specs.Prelude.{All, IfOk, OnErr, IsUtf8}
+use Rattle.std.proofs.Common.{◌≡◌, ℕ, ◌+◌, ◌*◌, ◌<◌, ◌≤◌, List, [], ◌∷◌, length, take, drop, map, refl, sym, ap, ◌∙◌, subst, arith, length-append, Result, Ok, Err}
+use Rattle.std.specs.Prelude.{All, OnErr}
 use Rattle.std.proofs.lemmas.List.{append-nil, length-map}
 use Rattle.std.proofs.lemmas.List.Elements.{All-tail}
 use Rattle.std.specs.List.{flat_map}
-use Rattle.httparse.specs.declared.Error.{Error}
-use Rattle.httparse.specs.declared.Status.{Status}
-use Rattle.httparse.specs.declared.Status.TheVariants.{Complete, Partial}
 use Rattle.httparse.specs.declared.spans.HeaderSpan.{HeaderSpan}
 use Rattle.httparse.specs.declared.spans.RequestSpans.{RequestSpans}
-use Rattle.httparse.specs.Grammar.{LineEnd, crlf, lf, print_end, Field, IsField, print_field, print_section, RequestHead, IsRequestHead, print_request, ReadsRequest, HasNoRequest, field_value}
-use Rattle.httparse.specs.Outcome.{OnPartial}
-use Rattle.httparse.specs.Spans.{span_bytes, header_bytes, name_and_value, AreFieldsAt, IsRequestAt, RequestOverflows, IsHeaderWithin, IsWithin}
-use Rattle.httparse.proofs.GrammarLemmas.{print_request-append}
-use Rattle.http_wire.specs.Head.{field_names, IsPlain, KeepsRules, verb_of, request_of}
+use Rattle.httparse.specs.Grammar.{LineEnd, crlf, lf, print_end, Field, IsField, print_field, RequestHead, print_request, ReadsRequest, HasNoRequest}
+use Rattle.httparse.specs.Spans.{span_bytes, header_bytes, name_and_value, IsRequestAt, RequestOverflows}
+use Rattle.http_wire.specs.Head.{field_names, KeepsRules, verb_of}
 use Rattle.http_wire.specs.Front.{names_at, request_at, KeepsFieldRules}
 use Rattle.http_wire.specs.Requests.{BeginsWith, BreaksRule}
 

@@ -1,16 +1,16 @@
 -- What the front of a rest says of the rest.
-use Rattle.std.proofs.Common.{◌≡◌, ℕ, ◌+◌, ◌<◌, ◌≤◌, Bool, true, false, List, [], ◌∷◌, ◌++◌, length, take, drop, min, refl, sym, ap, ◌∙◌, subst, arith, length-take}
-use Rattle.std.proofs.lemmas.List.{take-append-drop, drop-append-le, take_all, append-nil, length-take-le, take-take}
+use Rattle.std.proofs.Common.{◌≡◌, ℕ, ◌+◌, ◌<◌, ◌≤◌, Bool, true, false, List, [], ◌++◌, length, take, drop, min, sym, ap, ◌∙◌, subst, arith, length-take}
+use Rattle.std.proofs.lemmas.List.{take-append-drop, drop-append-le, take_all, append-nil}
 use Rattle.std.proofs.Common.{inl, inr, ⊎_elim, ◌⊎◌, length-append}
 use Rattle.std.proofs.lemmas.Bool.{cases_lt, false≢true}
 use Rattle.std.specs.Bool.{IsTrue}
-use Rattle.httparse.specs.Grammar.{RequestHead, print_request, ReadsRequest, HasNoRequest}
+use Rattle.httparse.specs.Grammar.{print_request, ReadsRequest, HasNoRequest}
 use Rattle.http_wire.specs.declared.request.Request.{Request}
 use Rattle.http_wire.specs.declared.heads.Next.{Next}
 use Rattle.http_wire.specs.declared.heads.Next.TheVariants as answers
 use Rattle.http_wire.specs.Requests.{StreamEnd, BeginsWith, StandsHead, HasNoHead, BreaksRule, IsRefused, breaks_rule, too_long, cut_off, Clean, Bad, Unfinished, Requests, refused, ends, waits, HasGiven, one_more, has_other_byte}
-use Rattle.http_wire.specs.Reading.{Reading, reading, Answers, AnswersOfAll, answer_of}
-use Rattle.http_wire.proofs.StreamLemmas.{front_within, BeginsWith-append, BreaksRule-append, HasNoHead-from_broken, HasNoHead-append_long, HasNoHead-not_begins, Requests_unique, Requests-after_given}
+use Rattle.http_wire.specs.Reading.{Reading, Answers, AnswersOfAll, answer_of}
+use Rattle.http_wire.proofs.StreamLemmas.{front_within, BeginsWith-append, BreaksRule-append, HasNoHead-from_broken, HasNoHead-not_begins, Requests_unique, Requests-after_given}
 
 pub begins_from_front : (rest : List ℕ) (n len : ℕ) (request : Request) → len ≤ length (take n rest)
     → BeginsWith (take n rest) request (drop len (take n rest)) → BeginsWith rest request (drop len rest)

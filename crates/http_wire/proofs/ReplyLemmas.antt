@@ -1,5 +1,5 @@
 -- The pieces of a reply's head, as they are written and as they are defined.
-use Rattle.std.proofs.Common.{◌≡◌, ℕ, List, [], ◌++◌, append_assoc, refl, codes}
+use Rattle.std.proofs.Common.{◌≡◌, ℕ, List, [], ◌++◌, append_assoc, codes}
 
 pub reply_pieces : (status size edition allow close : List ℕ)
     → (((((((((([] ++ codes "HTTP/1.1 ") ++ status) ++ codes "\r\nContent-Type: text/html; charset=utf-8\r\nContent-Length: ")

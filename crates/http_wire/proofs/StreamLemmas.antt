@@ -1,13 +1,13 @@
 -- The laws of the requests in a stream: heads are prefix free, a stream has one list of requests, and
 -- what is refused stays refused.
-use Rattle.std.proofs.Common.{◌≡◌, ℕ, ◌+◌, ◌<◌, ◌≤◌, Bool, true, false, List, [], ◌∷◌, ◌++◌, length, take, drop, refl, sym, ap, ◌∙◌, subst, arith, append_assoc, length-append}
+use Rattle.std.proofs.Common.{◌≡◌, ℕ, ◌≤◌, Bool, false, List, [], ◌∷◌, ◌++◌, length, take, drop, refl, sym, ap, ◌∙◌, subst, arith, append_assoc, length-append}
 use Rattle.std.proofs.lemmas.List.{take-append-le, take_at, take-append-drop}
 use Rattle.std.proofs.lemmas.Bool.{false≢true}
-use Rattle.httparse.specs.Grammar.{RequestHead, print_request, ReadsRequest}
+use Rattle.httparse.specs.Grammar.{print_request}
 use Rattle.httparse.proofs.GrammarLemmas.{request_unique, request_prefix_free, ReadsRequest-append}
 use Rattle.http_wire.specs.declared.request.Request.{Request}
 use Rattle.http_wire.specs.Head.{KeepsRules, request_of}
-use Rattle.http_wire.specs.Requests.{BeginsWith, HasNoHead, BreaksRule, IsRefused, breaks_rule, too_long, cut_off, StreamEnd, Clean, Bad, Unfinished, Requests, next, refused, ends, waits, HasGiven, none_yet, one_more, IsHead}
+use Rattle.http_wire.specs.Requests.{BeginsWith, HasNoHead, BreaksRule, IsRefused, breaks_rule, too_long, cut_off, StreamEnd, Bad, Requests, next, refused, ends, waits, HasGiven, none_yet, one_more, IsHead}
 
 -- a front that is short enough stands in the first part alone
 pub front_within : (xs more front after : List ℕ) → xs ++ more ≡ front ++ after → length front ≤ length xs

@@ -1,6 +1,6 @@
 -- The request heads that are answered: those of the grammar of `httparse` (RFC 9112, sections 2 to 5)
 -- that keep the rules below. The limits are the project's own.
-use Rattle.std.specs.Prelude.{◌≡◌, ℕ, ◌≤◌, Bool, false, List, length, map, count_by, codes, if◌then◌else◌}
+use Rattle.std.specs.Prelude.{◌≡◌, ℕ, ◌≤◌, false, List, length, map, count_by, codes, if◌then◌else◌}
 use Rattle.std.specs.Str.{bytes_eq, str_to_ascii_lowercase}
 use Rattle.httparse.specs.Grammar.{Field, RequestHead, print_request}
 use Rattle.http_wire.specs.declared.request.Verb.{Verb}

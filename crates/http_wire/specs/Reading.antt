@@ -1,5 +1,5 @@
 -- What a reader of heads answers of the bytes that it was fed.
-use Rattle.std.specs.Prelude.{◌≡◌, ℕ, Bool, true, false, List, [], ◌∷◌, ◌++◌}
+use Rattle.std.specs.Prelude.{◌≡◌, ℕ, Bool, List, [], ◌∷◌, ◌++◌}
 use Rattle.http_wire.specs.declared.request.Request.{Request}
 use Rattle.http_wire.specs.declared.heads.Next.{Next}
 use Rattle.http_wire.specs.declared.heads.Next.TheVariants as answers

@@ -148,8 +148,9 @@ impl Heads {
         self.ended = true;
     }
 
-    /// What stands next in the stream. After [`Next::Bad`] each further answer is that. `NoMemory` comes
-    /// only where a head is next, and the reader is then as it was.
+    /// What stands next in the stream (RFC 9112, section 2.2). A head is given once, with its bytes: at
+    /// most 8,192, the empty lines before it among them. After [`Next::Bad`] each further answer is
+    /// that. `NoMemory` comes only where a head is next, and the reader is then as it was.
     pub fn next(&mut self, alloc: Global) -> Mem<Next>
         ensures answer { IfOk result (λ next. Answers self.old next self.new.rest) }
 

@@ -5,7 +5,7 @@ ghost use Rattle.http_wire.specs.declared.request.Request.{Request};
 ghost use Rattle.http_wire.specs.Requests.{IsHead, HasGiven, Requests, StreamEnd, Bad};
 
 /// No head has a proper prefix that is a head.
-pub fn heads_have_no_heads_before_them()
+pub fn heads_are_prefix_free()
     ensures { (text more : List ℕ) → IsHead text → IsHead (text ++ more) → more ≡ [] }
 {}
 
@@ -17,7 +17,7 @@ pub fn requests_are_unique()
 {}
 
 /// A stream is refused for good: neither more bytes nor the end of the input change that.
-pub fn a_bad_stream_stays_bad()
+pub fn bad_streams_stay_bad()
     ensures { (stream more : List ℕ) (ended : Bool) (requests : List Request)
         → Requests stream false requests Bad → Requests (stream ++ more) ended requests Bad }
 {}

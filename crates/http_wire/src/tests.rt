@@ -5,7 +5,7 @@ use go_ast::Mem;
 use std::alloc::Global;
 
 /// Writes a word and the target of each head that is whole, and answers what stops them.
-fn log_heads(alloc: Global, heads: &mut Heads, log: &mut String) -> Mem<&'static str>
+fn log_heads(alloc: Global, heads: &mut Heads, log: &mut String) -> Mem<Next>
     ensures { heads.new.ended ≡ heads.old.ended }
 {
     for _ in 0..100 {
@@ -19,19 +19,17 @@ fn log_heads(alloc: Global, heads: &mut Heads, log: &mut String) -> Mem<&'static
                 log.push_str(request.target.as_str())?;
                 log.push_str(if request.close { ", close; " } else { "; " })?;
             }
-            Next::More => return Ok("more"),
-            Next::Clean => return Ok("clean"),
-            Next::Bad => return Ok("bad"),
+            last => return Ok(last),
         }
     }
-    Ok("too many")
+    Ok(Next::Bad)
 }
 
 /// The heads of a stream that comes in these pieces, each short enough for the room, and how it ends.
 fn heads_in(alloc: Global, pieces: &[&[u8]], ended: bool) -> Mem<String> {
     let mut heads = Heads::new(alloc)?;
     let mut log = String::new(alloc);
-    let mut last = "more";
+    let mut last = Next::More;
     for piece in pieces {
         let _ = heads.feed(piece);
         last = log_heads(alloc, &mut heads, &mut log)?;
@@ -40,7 +38,12 @@ fn heads_in(alloc: Global, pieces: &[&[u8]], ended: bool) -> Mem<String> {
         heads.end();
         last = log_heads(alloc, &mut heads, &mut log)?;
     }
-    log.push_str(last)?;
+    log.push_str(match last {
+        Next::Head(_) => "head",
+        Next::More => "more",
+        Next::Clean => "clean",
+        Next::Bad => "bad",
+    })?;
     Ok(log)
 }
 

@@ -1,6 +1,5 @@
 -- What reading the listed paths one after another gives: sources that are scanned from the contents.
-use Rattle.std.proofs.Common.{◌≡◌, ℕ, ◌+◌, ◌<◌, ◌≤◌, Bool, true, false, cond, Option, Some, None, IfSome, IsSome, List, [], ◌∷◌, ◌++◌, length, get_or, All, inl, inr, refl, ap, ◌∙◌, subst, arith}
-use Rattle.std.specs.Option.{ForSome}
+use Rattle.std.proofs.Common.{◌≡◌, ℕ, ◌+◌, ◌<◌, ◌≤◌, Bool, true, false, cond, Option, Some, None, IfSome, IsSome, List, [], ◌∷◌, ◌++◌, length, get_or, All, inl, inr, refl, sym, ap, ◌∙◌, subst, arith}
 use Rattle.std.specs.Str.{bytes_eq}
 use Rattle.std.proofs.lemmas.Bool.{false≢true}
 use Rattle.std.proofs.lemmas.Option.{none-some}
@@ -11,7 +10,7 @@ use Prim.Native.Nat.{zero, suc}
 use Rattle.go_ast.specs.Causes.{Rose, RoseBy}
 use Rattle.tree_io.specs.Path.{Belongs, IsRising, paths_of}
 use Rattle.tree_io.specs.Sources.{Contents, Sources, IsFrom, IsScannedFrom, IsSources, bytes_at, entry_of, is_unread, unread_count, IsReadable}
-use Rattle.tree_io.specs.Scans.{under_way}
+use Rattle.tree_io.specs.Scans.{under_way, IsKnown, IsListed, IsReadAs}
 use Rattle.tree_io.specs.declared.tree.Entry.{Entry}
 use Rattle.tree_io.specs.declared.tree.Entry.TheVariants.{Bytes, Large, Unread}
 
@@ -20,14 +19,6 @@ pub record IsReadSoFar (scans : Option (List Contents)) (paths : List (List ℕ)
   pub same_paths : paths_of sources ≡ paths
   pub entries : IfSome scans (λ told. All (IsFrom (under_way told)) sources)
   pub few_unread : RoseBy (unread_count sources) before now
-
--- the list's clause `told`
-abbrev pub IsListed : Option (List Contents) → List (List ℕ) → Type 0
-IsListed scans paths = IfSome scans (λ told. paths ≡ paths_of (under_way told))
-
--- the read's clause `told`
-abbrev pub IsReadAs : Option (List Contents) → List ℕ → Entry → Type 0
-IsReadAs scans path entry = IfSome scans (λ told. IfSome (bytes_at (under_way told) path) (λ bytes. entry ≡ entry_of bytes))
 
 -- before the first read
 pub IsReadSoFar-none : (scans : Option (List Contents)) (before now : ℕ) → before ≤ now → IsReadSoFar scans [] [] before now
@@ -50,7 +41,7 @@ from_read : (contents : Contents) (path : List ℕ) (entry : Entry) (bytes : Opt
 from_read contents path entry None at known read = absurd (false≢true known)
 from_read contents path entry (Some bytes) at known read = inr (rw at read)
 
-next_read : (scans : Option (List Contents)) (path : List ℕ) (entry : Entry) → ForSome scans (λ told. IsSome (bytes_at (under_way told) path)) → IsReadAs scans path entry → IfSome scans (λ told. IsFrom (under_way told) (path, entry))
+next_read : (scans : Option (List Contents)) (path : List ℕ) (entry : Entry) → IsKnown scans path → IsReadAs scans path entry → IfSome scans (λ told. IsFrom (under_way told) (path, entry))
 next_read None path entry known read = tt
 next_read (Some told) path entry known read = from_read (under_way told) path entry (bytes_at (under_way told) path) refl (known told refl) read
 
@@ -65,7 +56,7 @@ read_is_not_unread Unread readable = absurd readable
 
 -- after a read that gave an entry
 pub IsReadSoFar-read : (scans : Option (List Contents)) (paths : List (List ℕ)) (sources : Sources) (before middle now : ℕ) (path : List ℕ) (entry : Entry)
-    → IsReadSoFar scans paths sources before middle → middle ≤ now → ForSome scans (λ told. IsSome (bytes_at (under_way told) path)) → IsReadable entry → IsReadAs scans path entry
+    → IsReadSoFar scans paths sources before middle → middle ≤ now → IsKnown scans path → IsReadable entry → IsReadAs scans path entry
     → IsReadSoFar scans (paths ++ path ∷ []) (sources ++ (path, entry) ∷ []) before now
 IsReadSoFar-read scans paths sources before middle now path entry so_far later known readable read =
     let count : unread_count (sources ++ (path, entry) ∷ []) ≡ unread_count sources = rw (unread_count-push sources path entry, read_is_not_unread entry readable) (omega arith) in
@@ -111,11 +102,18 @@ found [] i d below = absurd (omega arith)
 found (file ∷ contents) zero d below = rw ((bytes_eq-Decides file.0 file.0).1 refl)
 found (file ∷ contents) (suc i) d below = some_either (bytes_eq (get_or (paths_of contents) i d) file.0) file.1 _ (found contents i d (omega arith))
 
--- what a read of a listed path requires
-pub listed_path_is_known : (scans : Option (List Contents)) (paths : List (List ℕ)) (i : ℕ) (d : List ℕ) → IsListed scans paths → i < length paths
-    → ForSome scans (λ told. IsSome (bytes_at (under_way told) (get_or paths i d)))
-listed_path_is_known None paths i d listed below = λ told is. absurd (none-some told is)
-listed_path_is_known (Some told) paths i d listed below = λ scans is.
+known_at : (scans : Option (List Contents)) (paths : List (List ℕ)) (i : ℕ) (d : List ℕ) → IsListed scans paths → i < length paths → IsKnown scans (get_or paths i d)
+known_at None paths i d listed below = λ told is. absurd (none-some told is)
+known_at (Some told) paths i d listed below = λ scans is.
     let same : told ≡ scans = cc in
     let known : IsSome (bytes_at (under_way told) (get_or paths i d)) = rw listed (found (under_way told) i d (subst (λ (ps : List (List ℕ)). i < length ps) listed below)) in
     subst (λ (now : List Contents). IsSome (bytes_at (under_way now) (get_or paths i d))) same known
+
+-- a listed path may be read: the scans are those of the list, and the path is the one at i
+pub IsKnown-listed : (scans now : Option (List Contents)) (paths : List (List ℕ)) (i : ℕ) (path : List ℕ) → now ≡ scans → IsListed scans paths → i < length paths → path ≡ get_or paths i path → IsKnown now path
+IsKnown-listed scans now paths i path same listed below is =
+    subst (λ (s : Option (List Contents)). IsKnown s path) (sym same) (subst (IsKnown scans) (sym is) (known_at scans paths i path listed below))
+
+-- what a read gave, where the scans are those of the list
+pub IsReadAs-same : (scans now : Option (List Contents)) (path : List ℕ) (entry : Entry) → now ≡ scans → IsReadAs now path entry → IsReadAs scans path entry
+IsReadAs-same scans now path entry same read = subst (λ (s : Option (List Contents)). IsReadAs s path entry) same read

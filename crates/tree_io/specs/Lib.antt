@@ -1,3 +1,4 @@
+pub mod Count
 pub mod Path
 pub mod Sources
 pub mod Scans

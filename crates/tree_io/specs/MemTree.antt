@@ -1,5 +1,6 @@
 -- What contracts see of a `MemTree`, and how its calls change it. This is the project's own.
 use Rattle.std.specs.Prelude.{◌≡◌, ℕ, ◌+◌, ◌-◌, ◌^◌, List, [], ◌∷◌, ◌++◌, length, Contains, ◌⊎◌, min, slice_index_or}
+use Rattle.tree_io.specs.Count.{one_more}
 use Rattle.tree_io.specs.Path.{Belongs, HasSourcePaths}
 use Rattle.tree_io.specs.Sources.{Contents, bytes_at}
 
@@ -21,10 +22,6 @@ pub record IsTold (version : List (List ℕ × List ℕ)) (contents : Contents) 
 -- the version with this number, counted from 0; the last one past the end, and empty contents where there is none
 abbrev pub version_at : List Contents → ℕ → Contents
 version_at versions n = slice_index_or versions (min n (length versions - 1)) []
-
--- one more, up to the end of a u64
-abbrev pub one_more : ℕ → ℕ
-one_more n = min (n + 1) (2 ^ 64 - 1)
 
 -- the call after this many fails: its number is among those that fail, or there is no number left for it
 abbrev pub FailsAfter : ℕ → List ℕ → Type 0

@@ -1,7 +1,8 @@
 //! The calls of a tree in memory, by their numbers.
 
 ghost use Rattle.std.specs.Prelude.{◌≡◌, ◌↔◌, IsTrue};
-ghost use Rattle.tree_io.specs.MemTree.{FailsAfter, one_more};
+ghost use Rattle.tree_io.specs.Count.{one_more};
+ghost use Rattle.tree_io.specs.MemTree.{FailsAfter};
 
 /// How many calls there were, and the numbers of those that fail, counted from 1.
 #[derive(Drop)]

@@ -99,7 +99,11 @@ fn read_file<R: Files>(rt: &R, alloc: Global, root: &str, path: &str) -> Result<
 }
 
 impl<R: Files + AllocGlobal + Clone + Drop> Tree for FsTree<R> {
-    ghost use Rattle.std.specs.Prelude.{None};
+    ghost use Rattle.std.specs.Prelude.{◌≡◌, None, All, IfOk, IsErrOf, IsOk, OnOk};
+    ghost use Rattle.go_ast.specs.Causes.{HasIoCause};
+    ghost use Rattle.tree_io.specs.Path.{Belongs, IsRising};
+    ghost use Rattle.tree_io.specs.Sources.{IsReadable};
+    ghost use Rattle.tree_io.specs.FsTree.{list_failed, read_failed};
 
     ghost scans = { λ _. None };
 
@@ -107,11 +111,21 @@ impl<R: Files + AllocGlobal + Clone + Drop> Tree for FsTree<R> {
 
     ghost read_faults = { λ tree. tree.read_faults };
 
-    fn open_scan(&mut self) -> Result<(), Failed> {
+    fn open_scan(&mut self) -> Result<(), Failed>
+        ensures opens { IsOk result }
+        ensures same { self.new ≡ self.old }
+    {
         Ok(())
     }
 
-    fn list(&mut self, alloc: Global) -> Result<Seq<Txt>, IoFail> {
+    fn list(&mut self, alloc: Global) -> Result<Seq<Txt>, IoFail>
+        ensures belong { IfOk result (All Belongs) }
+        ensures rising { IfOk result IsRising }
+        ensures cause { HasIoCause self.old.list_faults self.new.list_faults result }
+        ensures ok { OnOk result (self.new ≡ self.old) }
+        ensures failed { IsErrOf result IoFail.Failed → self.new ≡ list_failed self.old }
+        ensures no_memory { IsErrOf result IoFail.NoMemory → self.new ≡ self.old }
+    {
         let listed = list_paths(&self.rt, alloc, self.root.as_str());
         if let Err(IoFail::Failed) = listed {
             self.list_faults = self.list_faults.saturating_add(1);
@@ -119,7 +133,13 @@ impl<R: Files + AllocGlobal + Clone + Drop> Tree for FsTree<R> {
         listed
     }
 
-    fn read(&mut self, alloc: Global, path: &str) -> Result<Entry, IoFail> {
+    fn read(&mut self, alloc: Global, path: &str) -> Result<Entry, IoFail>
+        ensures readable { IfOk result IsReadable }
+        ensures cause { HasIoCause self.old.read_faults self.new.read_faults result }
+        ensures ok { OnOk result (self.new ≡ self.old) }
+        ensures failed { IsErrOf result IoFail.Failed → self.new ≡ read_failed self.old }
+        ensures no_memory { IsErrOf result IoFail.NoMemory → self.new ≡ self.old }
+    {
         let entry = read_file(&self.rt, alloc, self.root.as_str(), path);
         if let Err(IoFail::Failed) = entry {
             self.read_faults = self.read_faults.saturating_add(1);

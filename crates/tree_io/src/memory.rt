@@ -101,8 +101,8 @@ impl Tree for MemTree {
         ensures failed { IsErrOf result IoFail.Failed → self.new ≡ list_failed self.old }
         ensures no_memory { IsErrOf result IoFail.NoMemory → self.new ≡ called self.old }
         ensures told { IfOk result (λ paths. paths ≡ paths_of (scans_told.under_way self.old.scans)) }
-        ensures belong { IfOk result (λ paths. All Belongs paths) }
-        ensures rising { IfOk result (λ paths. IsRising paths) }
+        ensures belong { IfOk result (All Belongs) }
+        ensures rising { IfOk result IsRising }
         ensures cause { HasIoCause self.old.list_faults self.new.list_faults result }
     {
         if self.calls.next_fails() {

@@ -1,4 +1,12 @@
+ghost use Rattle.std.specs.Prelude.{IfOk, IfSome};
+ghost use Rattle.tree_io.specs.Sources.{IsScannedFrom, IsSources};
+ghost use Rattle.tree_io.specs.Scans.{under_way};
+
 use super::*;
+use go_ast::{Bytes, IoFail, Mem, Seq, Txt};
+use std::alloc::Global;
+use std::fs;
+use std::os::unix::fs::symlink;
 use std::test::Fail;
 
 #[test]
@@ -6,14 +14,17 @@ fn paths_that_belong(rt: HostRuntime) -> Result<(), Fail> {
     for (path, wanted) in [
         ("a.go", true),
         ("vendor.go", true),
-        ("x/y/z.go", true),
+        ("x.y/z_w.go", true),
+        ("x/y/testdata.go", true),
         ("vendor/a.go", false),
-        ("x/testdata/a.go", false),
+        ("x/vendor/a.go", false),
+        ("testdata/a.go", false),
         (".x/a.go", false),
         ("_x/a.go", false),
         ("x/.a.go", false),
         ("x/_a.go", false),
         ("a.c", false),
+        ("ago", false),
         ("a.go/", false),
         ("a//b.go", false),
         ("/a.go", false),
@@ -22,8 +33,184 @@ fn paths_that_belong(rt: HostRuntime) -> Result<(), Fail> {
         ("", false),
         ("a\x1f.go", false),
         ("a\x7f.go", false),
+        ("a\u{80}.go", true),
     ] {
         assert_eq!(rt; belongs(path), wanted, "{path:?}");
     }
+    let longest = long_path(rt.alloc(), MAX_PATH_BYTES)?;
+    assert_eq!(rt; longest.len(), 4096);
+    assert!(rt; belongs(longest.as_str()));
+    let longer = long_path(rt.alloc(), MAX_PATH_BYTES + 1)?;
+    assert_eq!(rt; longer.len(), 4097);
+    assert!(rt; !belongs(longer.as_str()));
+    Ok(())
+}
+
+/// A path of so many bytes.
+fn long_path(alloc: Global, length: usize) -> Result<String, Fail> {
+    let mut path = String::new(alloc);
+    for _ in 3..length {
+        path.push('a')?;
+    }
+    path.push_str(".go")?;
+    Ok(path)
+}
+
+/// Scans a tree: lists it and reads each path. A read that fails leaves its entry unread.
+fn scan<T: Tree>(alloc: Global, tree: &mut T) -> Result<Seq<(Txt, Entry)>, IoFail>
+    ensures sources { IfOk result IsSources }
+    ensures scanned { IfOk result (λ sources. IfSome (T.scans tree.new)
+        (λ told. IsScannedFrom sources (under_way told) (T.read_faults tree.old) (T.read_faults tree.new))) }
+{
+    if tree.open_scan().is_err() {
+        return Err(IoFail::Failed);
+    }
+    let paths = tree.list(alloc)?;
+    let mut sources = Seq::new(alloc);
+    for path in paths.as_slice() {
+        let entry = match tree.read(alloc, path.as_str()) {
+            Ok(entry) => entry,
+            Err(IoFail::Failed) => Entry::Unread,
+            Err(IoFail::NoMemory) => return Err(IoFail::NoMemory),
+        };
+        sources.push((Txt::from_str(alloc, path.as_str())?, entry))?;
+    }
+    Ok(sources)
+}
+
+/// One line of a scan: each path, and behind it its bytes, `+` where they are too many, or `-` where they
+/// weren't read.
+fn shown<T: Tree>(alloc: Global, tree: &mut T) -> Result<String, Fail> {
+    let mut text = String::new(alloc);
+    match scan(alloc, tree) {
+        Ok(sources) => {
+            for (path, entry) in sources.as_slice() {
+                text.push_str(path.as_str())?;
+                text.push(' ')?;
+                text.push_str(shown_entry(entry))?;
+                text.push(';')?;
+            }
+        }
+        Err(IoFail::Failed) => text.push_str("failed")?,
+        Err(IoFail::NoMemory) => text.push_str("no memory")?,
+    }
+    Ok(text)
+}
+
+fn shown_entry(entry: &Entry) -> &str {
+    match entry {
+        Entry::Bytes(bytes) => std::str::from_utf8(bytes.as_slice()).unwrap_or("?"),
+        Entry::Large => "+",
+        Entry::Unread => "-",
+    }
+}
+
+/// A version of a tree, from paths and texts.
+fn version(alloc: Global, files: &[(&str, &str)]) -> Mem<Seq<(Txt, Bytes)>> {
+    let mut version = Seq::new(alloc);
+    for (path, text) in files {
+        version.push((
+            Txt::from_str(alloc, path)?,
+            Bytes::from_slice(alloc, text.as_bytes())?,
+        ))?;
+    }
+    Ok(version)
+}
+
+/// A tree of two versions, whose calls with these numbers fail.
+fn two_versions(alloc: Global, failing: &[u64]) -> Mem<MemTree> {
+    let mut versions = Seq::new(alloc);
+    versions.push(version(
+        alloc,
+        &[
+            ("b.go", "1"),
+            ("x/vendor/a.go", "2"),
+            ("a/c.go", "3"),
+            ("a.go", "4"),
+            ("b.go", "5"),
+            ("b.txt", "6"),
+        ],
+    )?)?;
+    versions.push(version(alloc, &[("z.go", "7")])?)?;
+    MemTree::new(alloc, versions, Vec::from_slice(alloc, failing)?)
+}
+
+#[test]
+fn trees_in_memory(rt: HostRuntime) -> Result<(), Fail> {
+    let alloc = rt.alloc();
+    let first = "a.go 4;a/c.go 3;b.go 1;";
+    for (failing, wanted) in [
+        ([0, 0], [first, "z.go 7;", "z.go 7;"]),
+        ([1, 0], ["failed", first, "z.go 7;"]),
+        ([2, 0], ["failed", "z.go 7;", "z.go 7;"]),
+        ([4, 8], ["a.go 4;a/c.go -;b.go 1;", "z.go -;", "z.go 7;"]),
+        ([6, 0], [first, "failed", "z.go 7;"]),
+        ([7, 0], [first, "failed", "z.go 7;"]),
+    ] {
+        let mut tree = two_versions(alloc, failing.as_slice())?;
+        for text in wanted {
+            assert_eq!(rt;
+                shown(alloc, &mut tree)?.as_str(),
+                text,
+                "failing {failing:?}"
+            );
+        }
+    }
+    let mut empty = MemTree::new(alloc, Seq::new(alloc), Vec::new(alloc))?;
+    assert_eq!(rt; shown(alloc, &mut empty)?.as_str(), "");
+    Ok(())
+}
+
+#[test]
+fn trees_in_folders(rt: HostRuntime) -> Result<(), Fail> {
+    let alloc = rt.alloc();
+    for folder in [
+        "tree/a/b",
+        "tree/vendor",
+        "tree/testdata",
+        "tree/.x",
+        "tree/_x",
+        "tree/d.go",
+    ] {
+        fs::create_dir_all(&rt, folder)?;
+    }
+    for (path, text) in [
+        ("tree/b.go", "1"),
+        ("tree/a/b/c.go", "2"),
+        ("tree/a.go", "3"),
+        ("tree/a/c.txt", "4"),
+        ("tree/a/.c.go", "5"),
+        ("tree/vendor/a.go", "6"),
+        ("tree/testdata/a.go", "7"),
+        ("tree/.x/a.go", "8"),
+        ("tree/_x/a.go", "9"),
+        ("tree/d.go/e.go", "10"),
+    ] {
+        fs::write(&rt, path, text)?;
+    }
+    symlink(&rt, "b.go", "tree/l.go")?;
+    symlink(&rt, "a", "tree/m.go")?;
+    symlink(&rt, "a", "tree/n")?;
+    let mut tree = FsTree::new(rt.clone()?, String::from_str(alloc, "tree")?);
+    let wanted = "a.go 3;a/b/c.go 2;b.go 1;d.go/e.go 10;l.go 1;m.go -;";
+    assert_eq!(rt; shown(alloc, &mut tree)?.as_str(), wanted);
+
+    let mut missing = FsTree::new(rt.clone()?, String::from_str(alloc, "no/tree")?);
+    assert_eq!(rt; shown(alloc, &mut missing)?.as_str(), "failed");
+    Ok(())
+}
+
+#[test]
+fn large_files(rt: HostRuntime) -> Result<(), Fail> {
+    let alloc = rt.alloc();
+    fs::create_dir(&rt, "large")?;
+    for (path, length) in [("large/a.go", 4_194_304), ("large/b.go", 4_194_305)] {
+        fs::write(&rt, path, vec![in alloc; b' '; length]?)?;
+    }
+    let mut tree = FsTree::new(rt.clone()?, String::from_str(alloc, "large")?);
+    let a = tree.read(alloc, "a.go").ok().ok_or("a.go can't be read")?;
+    assert!(rt; matches!(&a, Entry::Bytes(bytes) if bytes.as_slice().len() == 4_194_304));
+    let b = tree.read(alloc, "b.go").ok().ok_or("b.go can't be read")?;
+    assert!(rt; matches!(&b, Entry::Large));
     Ok(())
 }

@@ -21,12 +21,11 @@ pub enum Entry {
 /// listed, and its paths are read. A tree may tell the contents of the scans that were opened, and contracts
 /// then say exactly what is listed and read. It counts its faults, each count up to the end of a `u64`.
 pub trait Tree {
-    ghost use Rattle.std.specs.Prelude.{◌≡◌, ℕ, List, Option, All, IfOk, IfSome, IsSome, OnErr, OnOk};
-    ghost use Rattle.std.specs.Option.{ForSome};
+    ghost use Rattle.std.specs.Prelude.{◌≡◌, ℕ, List, Option, All, IfOk, OnErr, OnOk};
     ghost use Rattle.go_ast.specs.Causes.{HasCause, HasIoCause};
-    ghost use Rattle.tree_io.specs.Path.{Belongs, IsRising, paths_of};
-    ghost use Rattle.tree_io.specs.Sources.{Contents, bytes_at, entry_of, IsReadable};
-    ghost use Rattle.tree_io.specs.Scans.{under_way, OpensScan};
+    ghost use Rattle.tree_io.specs.Path.{Belongs, IsRising};
+    ghost use Rattle.tree_io.specs.Sources.{Contents, IsReadable};
+    ghost use Rattle.tree_io.specs.Scans.{IsKnown, IsListed, IsReadAs, OpensScan};
 
     /// The contents of the scans opened so far, where the tree tells them.
     ghost scans: { Self → Option (List Contents) };
@@ -48,9 +47,9 @@ pub trait Tree {
     /// The paths of the scan under way that belong, strictly rising by their bytes. `Failed` is answered only
     /// where the count of list faults rose in this call, or stands at its end.
     fn list(&mut self, alloc: Global) -> Result<Seq<Txt>, IoFail>
-        ensures told { IfOk result (λ paths. IfSome (scans self.old) (λ told. paths ≡ paths_of (under_way told))) }
-        ensures belong { IfOk result (λ paths. All Belongs paths) }
-        ensures rising { IfOk result (λ paths. IsRising paths) }
+        ensures told { IfOk result (IsListed (scans self.old)) }
+        ensures belong { IfOk result (All Belongs) }
+        ensures rising { IfOk result IsRising }
         ensures cause { HasIoCause (list_faults self.old) (list_faults self.new) result }
         ensures same_scans { scans self.new ≡ scans self.old }
         ensures same_read_faults { read_faults self.new ≡ read_faults self.old };
@@ -59,9 +58,8 @@ pub trait Tree {
     /// [`MAX_FILE_BYTES`]; never `Unread`. `Failed` is answered only where the count of read faults rose in
     /// this call, or stands at its end.
     fn read(&mut self, alloc: Global, path: &str) -> Result<Entry, IoFail>
-        requires { ForSome (scans self.old) (λ told. IsSome (bytes_at (under_way told) path.now)) }
-        ensures told { IfOk result (λ entry. IfSome (scans self.old)
-            (λ told. IfSome (bytes_at (under_way told) path.now) (λ bytes. entry ≡ entry_of bytes))) }
+        requires { IsKnown (scans self.old) path.now }
+        ensures told { IfOk result (IsReadAs (scans self.old) path.now) }
         ensures readable { IfOk result IsReadable }
         ensures cause { HasIoCause (read_faults self.old) (read_faults self.new) result }
         ensures same_scans { scans self.new ≡ scans self.old }

@@ -28,8 +28,8 @@ pub(crate) fn list_paths<R: Files + AllocGlobal + Clone + Drop>(
     alloc: Global,
     root: &str,
 ) -> Result<Seq<Txt>, IoFail>
-    ensures belong { IfOk result (λ paths. All Belongs paths) }
-    ensures rising { IfOk result (λ paths. IsRising paths) }
+    ensures belong { IfOk result (All Belongs) }
+    ensures rising { IfOk result IsRising }
 {
     let mut paths = find_paths(rt, alloc, root)?;
     paths.sort_unstable();

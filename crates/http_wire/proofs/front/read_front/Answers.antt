@@ -1,4 +1,4 @@
-use Rattle.std.proofs.Common.{◌≤◌, sym, ◌∙◌, drop, arith}
+use Rattle.std.proofs.Common.{sym, ◌∙◌, drop, arith}
 use Rattle.std.proofs.lemmas.Bool.{false≢true}
 use Rattle.http_wire.specs.Front.{request_at}
 use Rattle.http_wire.specs.Requests.{StandsHead}

@@ -1,4 +1,4 @@
-use Rattle.std.proofs.Common.{◌≡◌, ◌++◌, take, drop, arith, rules}
+use Rattle.std.proofs.Common.{◌≡◌, ◌++◌, take, drop, arith}
 use Rattle.std.proofs.lemmas.Grind.{common_steps}
 use Rattle.http_wire.proofs.StreamLemmas.{HasGiven-append}
 use Rattle.http_wire.proofs.heads.Heads.feed.Goals as goal

@@ -1,5 +1,5 @@
 use Rattle.http_wire.proofs.StreamLemmas.{Requests-append_bad}
-use Rattle.http_wire.proofs.laws.a_bad_stream_stays_bad.Goals as goal
+use Rattle.http_wire.proofs.laws.bad_streams_stay_bad.Goals as goal
 
 pub returns : goal.returns
 returns c = Requests-append_bad

@@ -1,0 +1,56 @@
+use crate::{Bytes, Fault, Seq, Txt};
+use std::test::Fail;
+
+#[test]
+fn sequences_keep_their_order(rt: HostRuntime) -> Result<(), Fail> {
+    let mut numbers = Seq::new(rt.alloc());
+    assert!(rt; numbers.is_empty());
+    numbers.push(7u32)?;
+    numbers.push(8)?;
+    numbers.push(9)?;
+    assert_eq!(rt; numbers.len(), 3);
+    assert_eq!(rt; numbers.as_slice(), [7, 8, 9].as_slice());
+    assert_eq!(rt; numbers.get(1).copied(), Some(8));
+    assert_eq!(rt; numbers.get(3).copied(), None);
+    assert_eq!(rt; numbers.pop(), Some(9));
+    let again = Seq::from_vec(numbers.into_vec());
+    assert_eq!(rt; again.as_slice(), [7, 8].as_slice());
+    Ok(())
+}
+
+#[test]
+fn texts_and_bytes_are_kept(rt: HostRuntime) -> Result<(), Fail> {
+    let text = Txt::from_str(rt.alloc(), "gö")?;
+    assert_eq!(rt; text.as_str(), "gö");
+    let text = Txt::from_string(text.into_string());
+    assert_eq!(rt; text.as_str(), "gö");
+    let bytes = Bytes::from_slice(rt.alloc(), b"ab")?;
+    let bytes = Bytes::from_vec(bytes.into_vec());
+    assert_eq!(rt; bytes.as_slice(), b"ab".as_slice());
+    Ok(())
+}
+
+#[test]
+fn faults_are_told_with_their_numbers(rt: HostRuntime) -> Result<(), Fail> {
+    let other = Fault::OtherPackage(Txt::from_str(rt.alloc(), "r")?);
+    for (fault, text) in [
+        (Fault::NotUtf8(10), "fault 1: not UTF-8 at byte 10"),
+        (Fault::BadToken(0), "fault 2: bad token at byte 0"),
+        (Fault::OpenComment(3), "fault 3: open comment at byte 3"),
+        (Fault::OpenString(4), "fault 4: open string at byte 4"),
+        (Fault::Unbalanced(5), "fault 5: unbalanced at byte 5"),
+        (Fault::NoPackageClause, "fault 6: no package clause"),
+        (
+            Fault::BadDeclaration(2, 2),
+            "fault 7: bad declaration 2 at line 2",
+        ),
+        (other, "fault 8: package r beside another package"),
+        (Fault::FileTooLarge, "fault 11: file too large"),
+        (Fault::Unread, "fault 12: unread"),
+        (Fault::BadBuildLine(1), "fault 13: bad build line 1"),
+    ] {
+        let told = format!(in rt.alloc(); "{fault}")?;
+        assert_eq!(rt; told.as_str(), text);
+    }
+    Ok(())
+}

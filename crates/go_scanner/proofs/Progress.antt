@@ -1,0 +1,129 @@
+-- What a scan has found when it stands at an offset, and how each item takes it on.
+use Rattle.std.proofs.Common.{◌≡◌, ◌==◌, ℕ, ◌+◌, ◌-◌, ◌<◌, ◌≤◌, true, List, [], ◌∷◌, ◌++◌, length, take, drop, Option, Some, None, refl, sym, ◌∙◌, ap, subst, arith}
+use Rattle.std.proofs.lemmas.List.{append-nil, append_assoc, drop-drop, drop_all, drop_at, length-append, length-drop, take_rest}
+use Rattle.std.specs.Prelude.{IsUtf8}
+use Rattle.go_ast.specs.declared.token.Token.{Token}
+use Rattle.go_ast.specs.declared.token.Comment.{Comment}
+use Rattle.go_ast.specs.Lexical.{Item, print_item, Stands}
+use Rattle.go_ast.specs.Reading.{Leads, Reads, IsStuckAt, line_ends, tokens_of, comments_of}
+use Rattle.go_scanner.specs.declared.shape.Shape.{Shape}
+use Rattle.go_scanner.specs.Shapes.{shape_of, shape_at, length_of}
+use Rattle.go_scanner.specs.Steps.{semicolon_of, added_tokens, added_comments, pending_after}
+use Rattle.go_scanner.proofs.Standing.{sound, none_stands, length_of-shape_of, length-print_item-pos}
+use Rattle.go_scanner.proofs.ItemShapes.{ends_at, tokens_at, line_ends-shape, tokens_of-shape, comments_of-shape, semicolon_before, step_tokens}
+
+-- items lead to the offset; the tokens and comments so far go on to those of any items that follow
+pub record Progress (bytes : List ℕ) (at : ℕ) (pending : Option ℕ) (tokens : List Token) (comments : List Comment) : Type 0 where
+  pub within : at ≤ length bytes
+  pub items : List Item
+  pub leads : Leads 0 items bytes (drop at bytes)
+  pub all_tokens : (more : List Item) → tokens_of 0 (items ++ more) ≡ tokens ++ (semicolon_before pending (line_ends more) ++ tokens_of at more)
+  pub all_comments : (more : List Item) → comments_of 0 (items ++ more) ≡ comments ++ comments_of at more
+
+-- the offset where items end
+abbrev pub end_of : ℕ → List Item → ℕ
+end_of offset [] = offset
+end_of offset (item ∷ items) = end_of (offset + length (print_item item)) items
+
+pub end_of-length : (offset : ℕ) (items : List Item) (bytes rest : List ℕ) → Leads offset items bytes rest → end_of offset items + length rest ≡ offset + length bytes
+end_of-length offset [] bytes rest same = ap (λ bs. offset + length bs) (sym same)
+end_of-length offset (item ∷ items) bytes rest leads =
+    let later = end_of-length (offset + length (print_item item)) items leads.0 rest leads.3 in
+    let whole = ap length leads.1 ∙ length-append (print_item item) leads.0 in
+    omega arith
+
+-- items that lead on to where others begin
+leads_on : (offset : ℕ) (items more : List Item) (bytes mid rest : List ℕ) → Leads offset items bytes mid → Leads (end_of offset items) more mid rest → Leads offset (items ++ more) bytes rest
+leads_on offset [] more bytes mid rest same later = subst (λ bs. Leads offset more bs rest) (sym same) later
+leads_on offset (item ∷ items) more bytes mid rest leads later =
+    (leads.0, leads.1, leads.2, leads_on (offset + length (print_item item)) items more leads.0 mid rest leads.3 later)
+
+pub start : (bytes : List ℕ) → Progress bytes 0 None [] []
+start bytes = record {
+  within = omega arith;
+  items = [];
+  leads = refl;
+  all_tokens = λ more. refl;
+  all_comments = λ more. refl;
+}
+
+after_item : (bytes : List ℕ) (at : ℕ) (pending : Option ℕ) (tokens : List Token) (comments : List Comment) (item : Item) (rest : List ℕ)
+    → Progress bytes at pending tokens comments → drop at bytes ≡ print_item item ++ rest → Stands at item rest
+    → Progress bytes (at + length_of (shape_of item)) (pending_after (shape_of item) at pending) (tokens ++ added_tokens (shape_of item) at pending) (comments ++ added_comments (shape_of item) at)
+after_item bytes at pending tokens comments item rest before split stands =
+    let shape = shape_of item in
+    let size : length (print_item item) ≡ length_of shape = sym (length_of-shape_of item) in
+    let parts : length (drop at bytes) ≡ length (print_item item) + length rest = ap length split ∙ length-append (print_item item) rest in
+    let fits : at ≤ length bytes = before.within in
+    let here : end_of 0 before.items ≡ at = omega (arith, end_of-length 0 before.items bytes (drop at bytes) before.leads, length-drop at bytes) in
+    let past : rest ≡ drop (at + length_of shape) bytes =
+    sym (drop_at (print_item item) rest (length_of shape) size) ∙ ap (drop (length_of shape)) (sym split) ∙ drop-drop (length_of shape) at bytes in
+    let last : Leads (end_of 0 before.items) (item ∷ []) (drop at bytes) (drop (at + length_of shape) bytes) =
+    subst (λ n. Leads n (item ∷ []) (drop at bytes) (drop (at + length_of shape) bytes)) (sym here) (rest, split, stands, past) in
+    record {
+      within = omega (arith, length-drop at bytes);
+      items = before.items ++ item ∷ [];
+      leads = leads_on 0 before.items (item ∷ []) bytes (drop at bytes) (drop (at + length_of shape) bytes) before.leads last;
+      all_tokens = λ more.
+          ap (tokens_of 0) (append_assoc before.items (item ∷ []) more) ∙ before.all_tokens (item ∷ more)
+          ∙ ap (λ ends. tokens ++ (semicolon_before pending ends ++ tokens_of at (item ∷ more))) (line_ends-shape item more)
+          ∙ ap (λ later. tokens ++ (semicolon_before pending (ends_at shape (line_ends more)) ++ later))
+          (tokens_of-shape at item more ∙ ap (λ n. tokens_at shape at (line_ends more) (tokens_of (at + n) more)) size)
+          ∙ ap (λ later. tokens ++ later) (step_tokens shape at pending (line_ends more) (tokens_of (at + length_of shape) more))
+          ∙ sym (append_assoc tokens (added_tokens shape at pending) _);
+      all_comments = λ more.
+          ap (comments_of 0) (append_assoc before.items (item ∷ []) more) ∙ before.all_comments (item ∷ more)
+          ∙ ap (λ later. comments ++ later) (comments_of-shape at item more ∙ ap (λ n. added_comments shape at ++ comments_of (at + n) more) size)
+          ∙ sym (append_assoc comments (added_comments shape at) _);
+    }
+
+-- one item more
+pub after : (bytes : List ℕ) (at : ℕ) (pending : Option ℕ) (tokens : List Token) (comments : List Comment) (shape : Shape)
+    → Progress bytes at pending tokens comments → shape_at (at == 0) (drop at bytes) ≡ Some shape
+    → Progress bytes (at + length_of shape) (pending_after shape at pending) (tokens ++ added_tokens shape at pending) (comments ++ added_comments shape at)
+after bytes at pending tokens comments shape before found =
+    let stands = sound at (drop at bytes) shape found in
+    subst (λ s. Progress bytes (at + length_of s) (pending_after s at pending) (tokens ++ added_tokens s at pending) (comments ++ added_comments s at))
+    stands.same (after_item bytes at pending tokens comments stands.item stands.after before stands.split stands.stands)
+
+-- an item has a byte
+pub length_of-pos : (bytes : List ℕ) (at : ℕ) (shape : Shape) → shape_at (at == 0) (drop at bytes) ≡ Some shape → 0 < length_of shape
+length_of-pos bytes at shape found =
+    let stands = sound at (drop at bytes) shape found in
+    let size : length_of shape ≡ length (print_item stands.item) = ap length_of (sym stands.same) ∙ length_of-shape_of stands.item in
+    omega (arith, length-print_item-pos at stands.item stands.after stands.stands)
+
+at_end : (pending : Option ℕ) → semicolon_before pending true ++ [] ≡ semicolon_of pending
+at_end None = refl
+at_end (Some end) = refl
+
+-- the end
+pub finish : (bytes : List ℕ) (at : ℕ) (pending : Option ℕ) (tokens : List Token) (comments : List Comment)
+    → IsUtf8 bytes → Progress bytes at pending tokens comments → length bytes ≤ at → Reads bytes (tokens ++ semicolon_of pending) comments
+finish bytes at pending tokens comments utf8 before end = record {
+  utf8 = utf8;
+  items = before.items;
+  leads = subst (λ rest. Leads 0 before.items bytes rest) (drop_all at bytes end) before.leads;
+  all_tokens = sym (ap (tokens_of 0) (sym (append-nil before.items)) ∙ before.all_tokens [] ∙ ap (λ later. tokens ++ later) (at_end pending));
+  all_comments = sym (ap (comments_of 0) (sym (append-nil before.items)) ∙ before.all_comments [] ∙ append-nil comments);
+}
+
+-- a place where nothing stands
+pub stuck : (bytes : List ℕ) (at : ℕ) (pending : Option ℕ) (tokens : List Token) (comments : List Comment)
+    → Progress bytes at pending tokens comments → at < length bytes → shape_at (at == 0) (drop at bytes) ≡ None → IsStuckAt bytes at
+stuck bytes at pending tokens comments before more nothing = record {
+  items = before.items;
+  rest = drop at bytes;
+  leads = before.leads;
+  within = omega (arith, length-drop at bytes);
+  place = omega (arith, length-drop at bytes);
+  none = none_stands at (drop at bytes) nothing;
+}
+
+-- what the code finds in the slice from the offset on
+pub found_here : (bytes : List ℕ) (at : ℕ) (found : Option Shape) → found ≡ shape_at (at == 0) (take (length bytes - at) (drop at bytes)) → shape_at (at == 0) (drop at bytes) ≡ found
+found_here bytes at found same = ap (shape_at (at == 0)) (sym (take_rest bytes at)) ∙ sym same
+
+pub same_progress : (bytes : List ℕ) (at there : ℕ) (pending pended : Option ℕ) (tokens all : List Token) (comments every : List Comment)
+    → Progress bytes at pending tokens comments → there ≡ at → pended ≡ pending → all ≡ tokens → every ≡ comments → Progress bytes there pended all every
+same_progress bytes at there pending pended tokens all comments every before place wait ts cs = rw (place, wait, ts, cs) before

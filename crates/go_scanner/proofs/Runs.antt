@@ -1,0 +1,45 @@
+-- The run of a number, and how long it is.
+use Rattle.std.proofs.Common.{◌≡◌, ℕ, suc, ◌+◌, ◌<◌, ◌≤◌, Bool, true, false, ◌||◌, ◌&&◌, not, List, [], ◌∷◌, length, take, drop, get_or, refl, sym, ap, arith, cond, eqb}
+use Rattle.std.proofs.lemmas.Bool.Decides.{nat_tests}
+use Rattle.std.specs.List.{list_all}
+use Rattle.std.specs.Char.{is_ascii_digit}
+use Rattle.go_ast.specs.Lexical.{goes_on, run_after, number_run, is_hexadecimal}
+use Rattle.go_scanner.specs.Shapes.{is_decimal}
+
+-- the run is a front of the bytes
+front_step : (b : ℕ) (bytes run : List ℕ) (t : Bool) → run ≡ take (length run) bytes → cond t (b ∷ run) [] ≡ take (length (cond t (b ∷ run) [])) (b ∷ bytes)
+front_step b bytes run true is = ap (λ r. b ∷ r) is
+front_step b bytes run false is = refl
+
+run_after-take : (hexadecimal : Bool) (before : ℕ) (bytes : List ℕ) → run_after hexadecimal before bytes ≡ take (length (run_after hexadecimal before bytes)) bytes
+run_after-take hexadecimal before [] = refl
+run_after-take hexadecimal before (b ∷ bytes) = front_step b bytes _ (goes_on hexadecimal before b) (run_after-take hexadecimal b bytes)
+
+length_step : (b n : ℕ) (run : List ℕ) (t : Bool) → length run ≤ n → length (cond t (b ∷ run) []) ≤ suc n
+length_step b n run true within = omega arith
+length_step b n run false within = omega arith
+
+pub length_run_after : (hexadecimal : Bool) (before : ℕ) (bytes : List ℕ) → length (run_after hexadecimal before bytes) ≤ length bytes
+length_run_after hexadecimal before [] = omega arith
+length_run_after hexadecimal before (b ∷ bytes) = length_step b _ _ (goes_on hexadecimal before b) (length_run_after hexadecimal b bytes)
+
+pub number_run_take : (bytes : List ℕ) → 0 < length bytes → take (1 + length (run_after (is_hexadecimal bytes) (get_or bytes 0 0) (drop 1 bytes))) bytes ≡ number_run bytes
+unfolding number_run
+number_run_take [] some = absurd (omega arith)
+number_run_take (b ∷ bytes) some =
+    let n = length (run_after (is_hexadecimal (b ∷ bytes)) b bytes) in
+    let e : 1 + n ≡ suc n = omega arith in
+    rw e (ap (λ r. b ∷ r) (sym (run_after-take _ b bytes)))
+
+pub length_number_run : (bytes : List ℕ) → 0 < length bytes → 0 < length (number_run bytes)
+unfolding number_run
+length_number_run [] some = some
+length_number_run (b ∷ bytes) some = omega arith
+
+one_more : (n : ℕ) → eqb n 0 ≡ eqb (suc n) 1
+one_more n = grind (arith, nat_tests)
+
+-- a run of digits with no 0 at its front, or 0 alone
+pub is_decimal_parts : (run : List ℕ) → 0 < length run → is_decimal run ≡ (list_all is_ascii_digit run && (not (eqb (get_or run 0 0) 48) || eqb (length run) 1))
+is_decimal_parts [] some = absurd (omega arith)
+is_decimal_parts (d ∷ ds) some = ap (λ b. (is_ascii_digit d && list_all is_ascii_digit ds) && (not (eqb d 48) || b)) (one_more (length ds))

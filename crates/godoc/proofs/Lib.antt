@@ -1,0 +1,3 @@
+pub mod Positions
+pub mod HitLines
+pub mod Outcomes

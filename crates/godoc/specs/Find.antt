@@ -1,0 +1,72 @@
+-- The text of `find`: a line for each identifier with a name. This is the project's own.
+use Rattle.std.specs.Prelude.{◌≡◌, ℕ, Bool, true, false, ◌&&◌, ◌⊎◌, List, [], ◌∷◌, ◌++◌, slice_range, decimal, codes, if◌then◌else◌, length, ◌≤◌, ⊤}
+use Rattle.std.specs.List.{flat_map}
+use Rattle.std.specs.Str.{bytes_eq}
+use Rattle.go_ast.specs.declared.token.Token.{Token}
+use Rattle.go_ast.specs.declared.token.TokenKind.{TokenKind}
+use Rattle.go_ast.specs.declared.token.TokenKind.TheVariants.{Ident, Keyword, Int, Float, Imaginary, Rune, Text, Operator, Semi, AutoSemi}
+use Rattle.go_ast.specs.declared.token.Comment.{Comment}
+use Rattle.go_ast.specs.Position.{line_of, column_of}
+use Rattle.go_ast.specs.Reading.{Reads}
+use Rattle.go_scanner.specs.Answers.{IsRead}
+use Rattle.tree_io.specs.declared.tree.Entry.{Entry}
+use Rattle.tree_io.specs.declared.tree.Entry.TheVariants.{Bytes, Large, Unread}
+use Rattle.tree_io.specs.Sources.{Sources}
+
+abbrev pub is_identifier : TokenKind → Bool
+is_identifier Ident = true
+is_identifier Keyword = false
+is_identifier Int = false
+is_identifier Float = false
+is_identifier Imaginary = false
+is_identifier Rune = false
+is_identifier Text = false
+is_identifier Operator = false
+is_identifier Semi = false
+is_identifier AutoSemi = false
+
+-- an identifier whose text is the name
+abbrev pub is_hit : List ℕ → List ℕ → Token → Bool
+is_hit name bytes token =
+    is_identifier token.kind && bytes_eq (slice_range bytes token.span.start token.span.end) name
+
+-- PATH:LINE:COL and a newline
+unfoldable pub position_line : List ℕ → ℕ → ℕ → List ℕ
+position_line path line column = path ++ codes ":" ++ decimal line ++ codes ":" ++ decimal column ++ codes "\n"
+
+-- the line for a token that is a hit, where it begins; none for any other
+unfoldable pub line_for : List ℕ → List ℕ → List ℕ → Token → List ℕ
+line_for name path bytes token = if is_hit name bytes token
+    then position_line path (line_of bytes token.span.start) (column_of bytes token.span.start) else []
+
+-- the lines of a source with these tokens
+abbrev pub hit_lines : List ℕ → List ℕ → List ℕ → List Token → List ℕ
+hit_lines name path bytes tokens = flat_map (line_for name path bytes) tokens
+
+-- these are the lines of a file with these bytes: those of its reading, and none where it has no reading
+abbrev pub FindsIn : List ℕ → List ℕ → List ℕ → List ℕ → Type 0
+FindsIn name path bytes lines =
+    ((tokens : List Token) × (comments : List Comment) × Reads bytes tokens comments × (lines ≡ hit_lines name path bytes tokens))
+    ⊎ ((IsRead bytes → ⊥) × (lines ≡ []))
+
+-- the lines of one source: none where its bytes aren't there
+abbrev pub FindsAt : List ℕ → List ℕ → Entry → List ℕ → Type 0
+FindsAt name path (Bytes bytes) lines = FindsIn name path bytes lines
+FindsAt name path Large lines = lines ≡ []
+FindsAt name path Unread lines = lines ≡ []
+
+-- the text of `find`: the lines of one source after another
+abbrev pub IsFindText : List ℕ → Sources → List ℕ → Type 0
+IsFindText name [] text = text ≡ []
+IsFindText name (source ∷ sources) text =
+    (lines : List ℕ) × (more : List ℕ) × FindsAt name source.0 source.1 lines × IsFindText name sources more × (text ≡ lines ++ more)
+
+-- the span of a token is in order, and within so many bytes
+abbrev pub IsWithin : ℕ → Token → Type 0
+IsWithin size token = (token.span.start ≤ token.span.end) × (token.span.end ≤ size)
+
+-- the bytes of a file that a scan can take
+abbrev pub IsSmall : Entry → Type 0
+IsSmall (Bytes bytes) = length bytes ≤ 4194304
+IsSmall Large = ⊤
+IsSmall Unread = ⊤

@@ -1,0 +1,4 @@
+pub mod Find
+pub mod Outcome
+pub mod Position
+pub mod Words

@@ -1,0 +1,107 @@
+//! The lines of one source in which a name stands.
+
+ghost use Rattle.std.specs.Prelude.{◌≡◌, ◌++◌, ◌≤◌, All, IfOk, OnOk, length, slice_range};
+ghost use Rattle.std.specs.Str.{bytes_eq};
+ghost use Rattle.go_ast.specs.Position.{line_starts};
+ghost use Rattle.godoc.specs.Find.{FindsAt, FindsIn, hit_lines, is_hit, line_for, position_line, IsSmall, IsWithin};
+
+use crate::position::{Position, position_of};
+use go_ast::{Mem, NoMemory, Refused, Token, TokenKind};
+use go_scanner::scan;
+use std::alloc::Global;
+use text_out::Text;
+use tree_io::Entry;
+
+/// Whether a token is an identifier with this name.
+fn is_hit(name: &str, source: &[u8], token: &Token) -> bool
+    requires { IsWithin (length source.now) token.now }
+    ensures { result ≡ is_hit name.now source.now token.now }
+{
+    let start = token.span.start as usize;
+    let end = token.span.end as usize;
+    token.kind == TokenKind::Ident && &source[start..end] == name.as_bytes()
+}
+
+/// Appends a path, a line, a column and a newline.
+#[tactic(auto, unfolding(crate::specs::Find::position_line))]
+fn push_line(text: &mut Text, path: &str, position: Position) -> Mem<()>
+    ensures { OnOk result (text.new ≡ text.old ++ position_line path.now position.line position.column) }
+{
+    text.push(path)?;
+    text.push(":")?;
+    text.push_number(position.line)?;
+    text.push(":")?;
+    text.push_number(position.column)?;
+    text.push("\n")
+}
+
+/// Appends the line of a token that is a hit.
+#[tactic(auto, unfolding(crate::specs::Find::line_for))]
+fn push_hit(
+    text: &mut Text,
+    name: &str,
+    path: &str,
+    source: &[u8],
+    starts: &[u32],
+    token: &Token,
+) -> Mem<()>
+    requires starts { starts.now ≡ line_starts source.now }
+    requires within { IsWithin (length source.now) token.now }
+    ensures { OnOk result (text.new ≡ text.old ++ line_for name.now path.now source.now token.now) }
+{
+    if !is_hit(name, source, token) {
+        return Ok(());
+    }
+    push_line(text, path, position_of(starts, token.span.start))
+}
+
+/// The lines of the tokens that are hits.
+fn token_lines(
+    alloc: Global,
+    name: &str,
+    path: &str,
+    source: &[u8],
+    starts: &[u32],
+    tokens: &[Token],
+) -> Mem<Vec<u8>>
+    requires starts { starts.now ≡ line_starts source.now }
+    requires within { All (IsWithin (length source.now)) tokens.now }
+    ensures { IfOk result (λ lines. lines.items ≡ hit_lines name.now path.now source.now tokens.now) }
+{
+    let mut text = Text::new(alloc);
+    for token in tokens {
+        push_hit(&mut text, name, path, source, starts, token)?;
+    }
+    Ok(text.into_bytes())
+}
+
+/// The lines of a source: those of its reading, and none where it has no reading.
+#[tactic(auto, using(crate::proofs::HitLines::all_within))]
+fn source_lines(alloc: Global, name: &str, path: &str, source: &[u8]) -> Mem<Vec<u8>>
+    requires { length source.now ≤ 4194304 }
+    ensures { IfOk result (λ lines. FindsIn name.now path.now source.now lines.items) }
+{
+    match scan(alloc, source) {
+        Ok(scanned) => token_lines(
+            alloc,
+            name,
+            path,
+            source,
+            scanned.lines.as_slice(),
+            scanned.tokens.as_slice(),
+        ),
+        Err(Refused::Fault(_)) => Ok(Vec::new(alloc)),
+        Err(Refused::NoMemory) => Err(NoMemory),
+    }
+}
+
+/// The lines of a file: none where it is too large or could not be read.
+pub(crate) fn entry_lines(alloc: Global, name: &str, path: &str, entry: &Entry) -> Mem<Vec<u8>>
+    requires { IsSmall entry.now }
+    ensures { IfOk result (λ lines. FindsAt name.now path.now entry.now lines.items) }
+{
+    match entry {
+        Entry::Bytes(source) => source_lines(alloc, name, path, source.as_slice()),
+        Entry::Large | Entry::Unread => Ok(Vec::new(alloc)),
+    }
+}
