@@ -8,6 +8,8 @@ mod lines;
 mod position;
 mod run;
 mod status;
+#[cfg(test)]
+mod tests;
 mod words;
 
 use link_io::{StdSink, StdSource};

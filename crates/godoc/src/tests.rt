@@ -1,0 +1,157 @@
+use crate::run::run;
+use crate::status::Status;
+use go_ast::{Bytes, Seq, Txt};
+use link_io::{MemSink, MemSource};
+use std::alloc::Global;
+use std::test::Fail;
+use tree_io::MemTree;
+
+/// A tree of one version, whose calls with these numbers fail.
+fn tree_of(alloc: Global, files: &[(&str, &[u8])], failing: &[u64]) -> Result<MemTree, Fail> {
+    let mut version = Seq::new(alloc);
+    for (path, bytes) in files {
+        let path = Txt::from_str(alloc, path)?;
+        version.push((path, Bytes::from_slice(alloc, bytes)?))?;
+    }
+    let mut versions = Seq::new(alloc);
+    versions.push(version)?;
+    let failing = Vec::from_slice(alloc, failing)?;
+    Ok(MemTree::new(alloc, versions, failing)?)
+}
+
+/// The words of a command line.
+fn words_of(alloc: Global, words: &[&str]) -> Result<Vec<String>, Fail> {
+    let mut all = Vec::new(alloc);
+    for word in words {
+        all.push(String::from_str(alloc, word)?)?;
+    }
+    Ok(all)
+}
+
+/// How a run ended over a tree, and what it wrote, by at most `most` bytes a write.
+fn run_on(
+    rt: &HostRuntime,
+    words: &[&str],
+    tree: &mut MemTree,
+    most: usize,
+    failing_writes: &[u64],
+) -> Result<(Status, Vec<u8>), Fail> {
+    let alloc = rt.alloc();
+    let words = words_of(alloc, words)?;
+    let mut input = MemSource::new(Vec::new(alloc), Vec::new(alloc), Vec::new(alloc));
+    let mut out = MemSink::new(alloc, most.max(1), Vec::from_slice(alloc, failing_writes)?);
+    let status = run(rt, alloc, words.as_slice(), tree, &mut input, &mut out);
+    Ok((status, Vec::from_slice(alloc, out.held())?))
+}
+
+const TWO_HITS: &[u8] = b"package e\n// err is here\nvar err, s = f(err), \"err\"\n";
+
+#[test]
+fn finds_identifiers_alone(rt: HostRuntime) -> Result<(), Fail> {
+    let mut tree = tree_of(rt.alloc(), &[("e.go", TWO_HITS)], &[])?;
+    let (status, written) = run_on(&rt, &["find", "err"], &mut tree, 4096, &[])?;
+    assert_eq!(rt; status, Status::Done);
+    assert_eq!(rt; written.as_slice(), b"e.go:3:5\ne.go:3:16\n".as_slice());
+    Ok(())
+}
+
+#[test]
+fn finds_in_the_order_of_the_paths(rt: HostRuntime) -> Result<(), Fail> {
+    let files: [(&str, &[u8]); 9] = [
+        ("b.go", b"p"),
+        ("a/c.go", b"p\r\n  p\n"),
+        ("vendor/v.go", b"p"),
+        ("testdata/t.go", b"p"),
+        (".x/x.go", b"p"),
+        ("_x/x.go", b"p"),
+        ("c.txt", b"p"),
+        ("faulty.go", b"p 0x1"),
+        ("a.go", b"\"p\" // p\np.p"),
+    ];
+    let mut tree = tree_of(rt.alloc(), &files, &[])?;
+    let (status, written) = run_on(&rt, &["find", "p"], &mut tree, 1, &[])?;
+    assert_eq!(rt; status, Status::Done);
+    let wanted = b"a.go:2:1\na.go:2:3\na/c.go:1:1\na/c.go:2:3\nb.go:1:1\n";
+    assert_eq!(rt; written.as_slice(), wanted.as_slice());
+    Ok(())
+}
+
+#[test]
+fn passes_over_what_fails_to_be_read(rt: HostRuntime) -> Result<(), Fail> {
+    let files: [(&str, &[u8]); 2] = [("a.go", b"x"), ("b.go", b"x")];
+    let mut tree = tree_of(rt.alloc(), &files, &[3])?;
+    let (status, written) = run_on(&rt, &["find", "x"], &mut tree, 4096, &[])?;
+    assert_eq!(rt; status, Status::Done);
+    assert_eq!(rt; written.as_slice(), b"b.go:1:1\n".as_slice());
+    Ok(())
+}
+
+#[test]
+fn tells_a_tree_that_fails(rt: HostRuntime) -> Result<(), Fail> {
+    for call in [1, 2] {
+        let mut tree = tree_of(rt.alloc(), &[("e.go", TWO_HITS)], &[call])?;
+        let (status, written) = run_on(&rt, &["find", "err"], &mut tree, 4096, &[])?;
+        assert_eq!(rt; status, Status::TreeFault);
+        assert!(rt; written.is_empty());
+    }
+    Ok(())
+}
+
+#[test]
+fn tells_an_output_that_fails(rt: HostRuntime) -> Result<(), Fail> {
+    for (call, wanted) in [(1, b"".as_slice()), (2, b"e.go:"), (4, b"e.go:3:5\ne.go:3")] {
+        let mut tree = tree_of(rt.alloc(), &[("e.go", TWO_HITS)], &[])?;
+        let (status, written) = run_on(&rt, &["find", "err"], &mut tree, 5, &[call])?;
+        assert_eq!(rt; status, Status::WriteFault);
+        assert_eq!(rt; written.as_slice(), wanted);
+    }
+    Ok(())
+}
+
+#[test]
+fn refuses_other_words(rt: HostRuntime) -> Result<(), Fail> {
+    for words in [
+        [].as_slice(),
+        &["find"],
+        &["find", "9x"],
+        &["find", "func"],
+        &["find", ""],
+        &["find", "a-b"],
+        &["find", "é"],
+        &["find", "x", "y"],
+        &["fine", "x"],
+        &["--workers", "65", "find", "x"],
+        &["gen", "1"],
+    ] {
+        let mut tree = tree_of(rt.alloc(), &[("e.go", TWO_HITS)], &[1, 2, 3])?;
+        let (status, written) = run_on(&rt, words, &mut tree, 4096, &[1])?;
+        assert_eq!(rt; status, Status::Usage, "{words:?}");
+        assert!(rt; written.is_empty());
+    }
+    Ok(())
+}
+
+#[test]
+fn takes_an_underscore_for_a_name(rt: HostRuntime) -> Result<(), Fail> {
+    let mut tree = tree_of(rt.alloc(), &[("e.go", b"var _ = _x")], &[])?;
+    let (status, written) = run_on(&rt, &["find", "_"], &mut tree, 4096, &[])?;
+    assert_eq!(rt; status, Status::Done);
+    assert_eq!(rt; written.as_slice(), b"e.go:1:5\n".as_slice());
+    Ok(())
+}
+
+#[test]
+fn ends_with_its_exit_status(rt: HostRuntime) {
+    for (status, code) in [
+        (Status::Done, 0),
+        (Status::Usage, 2),
+        (Status::TreeFault, 3),
+        (Status::Limit { files: 1, bytes: 0 }, 4),
+        (Status::ReadFault, 5),
+        (Status::WriteFault, 6),
+        (Status::NoMemory, 7),
+        (Status::DoorFault, 8),
+    ] {
+        assert_eq!(rt; status.exit_status(), code);
+    }
+}
