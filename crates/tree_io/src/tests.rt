@@ -5,9 +5,9 @@ ghost use Rattle.tree_io.specs.Scans.{under_way};
 use super::*;
 use go_ast::{Bytes, IoFail, Mem, Seq, Txt};
 use std::alloc::Global;
-use std::fs;
 use std::os::unix::fs::symlink;
 use std::test::Fail;
+use std::{env, fs, io};
 
 #[test]
 fn paths_that_belong(rt: HostRuntime) -> Result<(), Fail> {
@@ -161,9 +161,25 @@ fn trees_in_memory(rt: HostRuntime) -> Result<(), Fail> {
     Ok(())
 }
 
+/// Goes to an empty folder of a test's own, among what the build makes.
+fn enter_folder(rt: &HostRuntime, folder: &str) -> io::Result<()> {
+    if fs::exists(rt, folder)? {
+        fs::remove_dir_all(rt, folder)?;
+    }
+    fs::create_dir_all(rt, folder)?;
+    env::set_current_dir(rt, folder)
+}
+
+/// Goes back from a test's own folder, and removes it.
+fn leave_folder(rt: &HostRuntime, folder: &str) -> io::Result<()> {
+    env::set_current_dir(rt, "../../..")?;
+    fs::remove_dir_all(rt, folder)
+}
+
 #[test]
 fn trees_in_folders(rt: HostRuntime) -> Result<(), Fail> {
     let alloc = rt.alloc();
+    enter_folder(&rt, "out/tests/trees_in_folders")?;
     for folder in [
         "tree/a/b",
         "tree/vendor",
@@ -197,12 +213,14 @@ fn trees_in_folders(rt: HostRuntime) -> Result<(), Fail> {
 
     let mut missing = FsTree::new(rt.clone()?, String::from_str(alloc, "no/tree")?);
     assert_eq!(rt; shown(alloc, &mut missing)?.as_str(), "failed");
+    leave_folder(&rt, "out/tests/trees_in_folders")?;
     Ok(())
 }
 
 #[test]
 fn large_files(rt: HostRuntime) -> Result<(), Fail> {
     let alloc = rt.alloc();
+    enter_folder(&rt, "out/tests/large_files")?;
     fs::create_dir(&rt, "large")?;
     for (path, length) in [("large/a.go", 4_194_304), ("large/b.go", 4_194_305)] {
         fs::write(&rt, path, vec![in alloc; b' '; length]?)?;
@@ -212,5 +230,6 @@ fn large_files(rt: HostRuntime) -> Result<(), Fail> {
     assert!(rt; matches!(&a, Entry::Bytes(bytes) if bytes.as_slice().len() == 4_194_304));
     let b = tree.read(alloc, "b.go").ok().ok_or("b.go can't be read")?;
     assert!(rt; matches!(&b, Entry::Large));
+    leave_folder(&rt, "out/tests/large_files")?;
     Ok(())
 }

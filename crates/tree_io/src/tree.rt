@@ -45,7 +45,8 @@ pub trait Tree {
         ensures same_read_faults { read_faults self.new ≡ read_faults self.old };
 
     /// The paths of the scan under way that belong, strictly rising by their bytes. `Failed` is answered only
-    /// where the count of list faults rose in this call, or stands at its end.
+    /// where the count of list faults rose in this call, or stands at its end; `NoMemory` where an allocation
+    /// was refused.
     fn list(&mut self, alloc: Global) -> Result<Seq<Txt>, IoFail>
         ensures told { IfOk result (IsListed (scans self.old)) }
         ensures belong { IfOk result (All Belongs) }
@@ -56,7 +57,7 @@ pub trait Tree {
 
     /// The file at a path of the scan under way: its bytes, or `Large` where it has more than
     /// [`MAX_FILE_BYTES`]; never `Unread`. `Failed` is answered only where the count of read faults rose in
-    /// this call, or stands at its end.
+    /// this call, or stands at its end; `NoMemory` where an allocation was refused.
     fn read(&mut self, alloc: Global, path: &str) -> Result<Entry, IoFail>
         requires { IsKnown (scans self.old) path.now }
         ensures told { IfOk result (IsReadAs (scans self.old) path.now) }

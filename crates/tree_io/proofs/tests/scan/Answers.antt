@@ -1,4 +1,4 @@
-use Rattle.std.proofs.Common.{◌≡◌, ◌+◌, ℕ, List, [], ◌∷◌, ◌++◌, take, get_or, sym, subst, refl, ap, ◌∙◌}
+use Rattle.std.proofs.Common.{◌≡◌, ◌+◌, ℕ, List, [], ◌∷◌, ◌++◌, take, sym, subst, refl, ap, ◌∙◌}
 use Rattle.std.proofs.lemmas.List.{take_more}
 use Rattle.tree_io.specs.Scans.{IsKnown, IsListed, IsReadAs}
 use Rattle.tree_io.proofs.Reading.{IsKnown-listed, IsReadAs-same, IsReadSoFar-read, IsReadSoFar-failed}
