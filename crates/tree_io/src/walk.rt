@@ -4,7 +4,7 @@ ghost use Rattle.std.specs.Prelude.{◌≡◌, ◌+◌, ◌-◌, ◌≤◌, ◌<
 ghost use Rattle.tree_io.specs.Path.{Belongs, IsRising};
 
 use crate::folder::{full_path, io_fail};
-use crate::path::{belongs, has_path_bytes, is_plain_segment, is_source_folder};
+use crate::path::{belongs, has_path_bytes, is_source_folder};
 use go_ast::{IoFail, Mem, Seq, Txt};
 use std::alloc::Global;
 use std::fs;
@@ -112,7 +112,7 @@ fn visit<R: Files>(
 
 /// Whether an entry with this name is neither walked nor listed, whatever it is.
 fn is_passed_over(name: &str) -> bool {
-    !is_plain_segment(name) || !is_source_folder(name) || !has_path_bytes(name)
+    !is_source_folder(name) || !has_path_bytes(name)
 }
 
 /// The path of an entry of a folder below the root, which has the empty path.
