@@ -1,0 +1,47 @@
+-- What is known of a stream while it is read.
+use Rattle.std.proofs.Common.{◌≡◌, ℕ, ◌-◌, cond, List, [], ◌++◌, length, Option, sym, ap, ◌∙◌, subst, append_assoc, append-nil}
+use Rattle.http_wire.specs.declared.request.Request.{Request}
+use Rattle.http_wire.specs.declared.heads.Next.{Next}
+use Rattle.http_wire.specs.declared.heads.Next.TheVariants as answers
+use Rattle.http_wire.specs.Reading.{Reading, Answers}
+use Rattle.http_wire.specs.Requests.{HasGiven}
+use Rattle.http_wire.proofs.StreamLemmas.{HasGiven-append}
+use Rattle.link_io.specs.Streams.{Takes}
+use Rattle.link_io.proofs.StreamLemmas.{Takes-then, Takes-none}
+
+-- some bytes were read and fed, and no request was given of them yet
+pub record HasHeard (left left_after : Option (List ℕ)) (old new : Reading) : Type 0 where
+  pub bytes : List ℕ
+  pub takes : Takes left bytes left_after
+  pub given : (fed : List ℕ) (given : List Request) → HasGiven fed given old.rest → HasGiven (fed ++ bytes) given new.rest
+
+pub HasHeard-nothing : (left : Option (List ℕ)) (reading : Reading) → HasHeard left left reading reading
+HasHeard-nothing left reading = record {
+  bytes = [];
+  takes = Takes-none left;
+  given = λ fed given before. subst (λ w. HasGiven w given reading.rest) (sym (append-nil fed)) before;
+}
+
+-- a further piece was read and fed
+pub HasHeard-more : (left middle after : Option (List ℕ)) (old now new : Reading) (rest bytes : List ℕ)
+    → HasHeard left middle old now → rest ≡ now.rest → Takes middle bytes after → new.rest ≡ rest ++ bytes
+    → HasHeard left after old new
+HasHeard-more left middle after old now new rest bytes heard same takes fed_is = record {
+  bytes = heard.bytes ++ bytes;
+  takes = Takes-then left middle after heard.bytes bytes heard.takes takes;
+  given = λ fed given before.
+      let grown : HasGiven ((fed ++ heard.bytes) ++ bytes) given (now.rest ++ bytes) =
+      HasGiven-append (fed ++ heard.bytes) bytes now.rest given (heard.given fed given before) in
+      let rest_is : now.rest ++ bytes ≡ new.rest = ap (λ w. w ++ bytes) (sym same) ∙ sym fed_is in
+      subst (λ w. HasGiven w given new.rest) (append_assoc fed heard.bytes bytes)
+      (subst (HasGiven ((fed ++ heard.bytes) ++ bytes) given) rest_is grown);
+}
+
+pub rest_after_more : (old : Reading) (next : Next) (left : List ℕ) → Answers old next left → next ≡ answers.More
+    → left ≡ old.rest
+rest_after_more old next left answer is =
+    let more : Answers old answers.More left = subst (λ w. Answers old w left) is answer in more.0
+
+-- what is left to do before something is decided
+abbrev pub remaining : Reading → ℕ
+remaining reading = cond reading.ended 0 (16385 - length reading.rest)

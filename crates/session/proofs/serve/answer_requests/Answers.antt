@@ -1,0 +1,72 @@
+-- Each way out of the session, and one request more.
+use Rattle.std.proofs.Common.{Option, List, ℕ, Err, rules, subst, arith}
+use Rattle.std.proofs.lemmas.Result.{err_from_is_err_and}
+use Rattle.session.proofs.Progress.{Session-full, Session-unanswered, Session-refused, Session-closed, Session-clean, Session-unheard, Progress-more, Session-unbegun}
+use Rattle.session.proofs.ReplyLemmas.{StartsWith-then}
+use Rattle.session.specs.Steps.{Replies, Refuses}
+use Rattle.session.proofs.serve.answer_requests.Goals as goal
+
+pub returns-in_err-heads-clause-session : goal.returns-in_err-heads-clause-session
+returns-in_err-heads-clause-session g c =
+    let p = err_from_is_err_and c.from_residual.result c.from_residual.ensures.1 in
+    rw (p.1, p.2) (Session-unbegun _ _ _ _)
+
+pub returns-in_err-request-clause-session : goal.returns-in_err-request-clause-session
+returns-in_err-request-clause-session g c =
+    let p = err_from_is_err_and c.from_residual-in_err-request.result c.from_residual-in_err-request.ensures.1 in
+    rw (p.1, p.2, c.next_head.ensures.held)
+    (Session-unheard _ _ _ _ _ _ _ _ _ _ _ c.loop-answered.invariant.progress (omega arith) _ c.in_err-request.ensures.hears (c.next_head.ensures.end c.loop-answered.invariant.end))
+
+pub returns-in-Bad-clause-session : goal.returns-in-Bad-clause-session
+returns-in-Bad-clause-session g c =
+    let hears = rw c.in-Bad.is at c.in_ok-request.ensures.hears in
+    rw c.refuse.ensures.left
+    (Session-refused _ _ _ _ _ _ _ _ _ _ _ _ c.loop-answered.invariant.progress (omega arith) hears (c.next_head.ensures.end c.loop-answered.invariant.end) _
+    (subst (λ (w : Option (List ℕ)). Refuses w (g.L.Sink.held c.refuse.new.link) c.refuse.result) c.next_head.ensures.held c.refuse.ensures.refuses))
+
+pub returns-in-Clean-clause-session : goal.returns-in-Clean-clause-session
+returns-in-Clean-clause-session g c =
+    let hears = rw c.in-Clean.is at c.in_ok-request.ensures.hears in
+    rw c.next_head.ensures.held
+    (Session-clean _ _ _ _ _ _ _ _ _ _ _ c.loop-answered.invariant.progress (omega arith) hears (c.next_head.ensures.end c.loop-answered.invariant.end))
+
+pub returns-in_err-answer-clause-session : goal.returns-in_err-answer-clause-session
+returns-in_err-answer-clause-session g c =
+    let hears = rw c.in-Head.is at c.in_ok-request.ensures.hears in
+    let p = err_from_is_err_and c.from_residual-in_err-answer.result c.from_residual-in_err-answer.ensures.1 in
+    rw (p.1, p.2, c.answer.ensures.left)
+    (Session-unanswered _ _ _ _ _ _ _ _ _ _ _ _ _ _ _ c.loop-answered.invariant.progress (omega arith) hears (c.next_head.ensures.end c.loop-answered.invariant.end)
+    c.answer.ensures.later c.is_last-last.ensures _
+    (subst (λ (w : Option (List ℕ)). Replies (g.R.Responder.reply_of c.args.site.now) w (g.L.Sink.held c.answer.new.link) c.loop-answered.reader c.answer.new.reader c.in-Head.request c.is_last-last.result (Err c.in_err-answer.field-0.0))
+    c.next_head.ensures.held c.in_err-answer.ensures.replies))
+
+pub returns-then-request-clause-session : goal.returns-then-request-clause-session
+returns-then-request-clause-session g c =
+    let hears = rw c.in-Head.is at c.in_ok-request.ensures.hears in
+    let replied = c.in_ok-answer.ensures.replies in
+    rw c.answer.ensures.left
+    (Session-closed _ _ _ _ _ _ _ _ _ _ _ _ _ _ _ c.loop-answered.invariant.progress (omega arith) hears (c.next_head.ensures.end c.loop-answered.invariant.end)
+    replied.0 c.answer.ensures.later c.is_last-last.ensures (rw c.next_head.ensures.held at replied.1) c.if-request.true)
+
+pub loop-answered-preserved : goal.loop-answered-preserved
+loop-answered-preserved g c =
+    let hears = rw c.in-Head.is at c.in_ok-request.ensures.hears in
+    let replied = c.in_ok-answer.ensures.replies in
+    record {
+      progress = rw c.answer.ensures.left
+          (Progress-more _ _ _ _ _ _ _ _ _ _ _ _ _ _ _ c.loop-answered.invariant.progress hears
+          replied.0 c.answer.ensures.later c.is_last-last.ensures (rw c.next_head.ensures.held at replied.1) c.if-request.false);
+      end = rw c.answer.ensures.left (c.next_head.ensures.end c.loop-answered.invariant.end);
+      read_faults_later = search rules;
+      write_faults_later = search rules;
+      same_references = search rules;
+      opening = search rules;
+      later = StartsWith-then _ _ _ c.loop-answered.invariant.later c.answer.ensures.later;
+      told = search rules;
+      view = λ _. c.answer.ensures.view;
+      one_edition = λ _. c.answer.ensures.one_edition;
+    }
+
+pub returns-clause-session : goal.returns-clause-session
+returns-clause-session g c =
+    Session-full _ _ _ _ _ _ _ _ _ c.loop-answered.invariant.progress (omega arith) c.loop-answered.invariant.end

@@ -1,0 +1,20 @@
+-- So many requests were answered, none of them closes, and the reader of heads has not been told more than is so.
+use Rattle.std.proofs.Common.{◌≡◌, ◌≤◌}
+use Rattle.publication.specs.View.{IsOfOneEdition, IsView, StartsWith}
+use Rattle.session.specs.Incoming.{KnowsEnd}
+use Rattle.session.proofs.Progress.{Progress}
+use Rattle.session.proofs.serve.answer_requests.Given as goal
+
+abbrev pub invariant-loop-answered : goal.invariant-loop-answered
+invariant-loop-answered g l = record {
+  progress : Progress (g.R.Responder.reply_of l.site) (g.L.Source.left l.initial.link) (g.L.Source.left l.link) (g.L.Sink.held l.initial.link) (g.L.Sink.held l.link) l.initial.reader l.reader l.heads.rest l.answered;
+  end : KnowsEnd (g.L.Source.left l.link) l.heads;
+  read_faults_later : g.L.Source.read_faults l.initial.link ≤ g.L.Source.read_faults l.link;
+  write_faults_later : g.L.Sink.write_faults l.initial.link ≤ g.L.Sink.write_faults l.link;
+  same_references : g.L.Source.references l.link ≡ g.L.Source.references l.initial.link;
+  opening : l.reader.opening ≡ l.initial.reader.opening;
+  later : StartsWith l.reader.seen l.initial.reader.seen;
+  told : l.reader.told ≡ l.initial.reader.told;
+  view : IsView l.initial.reader → IsView l.reader;
+  one_edition : IsOfOneEdition l.initial.reader → IsOfOneEdition l.reader;
+}

@@ -1,0 +1,4 @@
+pub mod Incoming
+pub mod Session
+pub mod Steps
+pub mod Text

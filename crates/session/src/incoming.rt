@@ -1,0 +1,73 @@
+//! The requests that come in over a link.
+
+ghost use Rattle.std.specs.Prelude.{◌≡◌, ℕ, ◌+◌, ◌<◌, ◌≤◌, ◌⊎◌, List, [], ◌++◌, length, false, IfOk, IfSome, OnOk, OnErr, IsTrue, Ok};
+ghost use Rattle.go_ast.specs.Causes.{HasCause, Rose};
+ghost use Rattle.http_wire.specs.declared.heads.Next.TheVariants as answers;
+ghost use Rattle.link_io.specs.Streams.{Takes};
+ghost use Rattle.session.specs.Incoming.{Hears, KnowsEnd};
+
+use crate::session_end::SessionEnd;
+use go_ast::Failed;
+use http_wire::{Heads, Next};
+use link_io::Link;
+use std::alloc::Global;
+
+/// The most bytes of one read.
+const PIECE: usize = 4_096;
+
+// Reads once, and feeds what came to the reader of heads, or tells it that the input ended.
+fn read_piece<L: Link>(link: &mut L, heads: &mut Heads) -> Result<(), Failed>
+    requires goes_on { heads.old.ended ≡ false }
+    requires room { length heads.old.rest < 8192 }
+
+    ensures fed { (bytes : List ℕ) × Takes (L.left link.old) bytes (L.left link.new)
+        × (heads.new.rest ≡ heads.old.rest ++ bytes) }
+    ensures room_left { length heads.new.rest ≤ 16384 }
+    ensures progress { OnOk result (IsTrue heads.new.ended ⊎ (length heads.old.rest < length heads.new.rest)) }
+    ensures end { KnowsEnd (L.left link.new) heads.new }
+    ensures failed { OnErr result ((heads.new ≡ heads.old) × (L.left link.new ≡ L.left link.old)) }
+    ensures cause { HasCause (L.read_faults link.old) (L.read_faults link.new) result }
+
+    // The other side of the link stays.
+    ensures held { L.held link.new ≡ L.held link.old }
+    ensures write_faults { L.write_faults link.new ≡ L.write_faults link.old }
+    ensures same_references { L.Source.references link.new ≡ L.Source.references link.old }
+{
+    let mut piece = [0; PIECE];
+    let count = link.read(&mut piece)?;
+    if count == 0 {
+        heads.end();
+    } else {
+        let _ = heads.feed(&piece[..count]);
+    }
+    Ok(())
+}
+
+// What stands next in the stream, once that is decided. It reads as often as that takes.
+pub(crate) fn next_head<L: Link>(
+    alloc: Global,
+    link: &mut L,
+    heads: &mut Heads,
+) -> Result<Next, SessionEnd>
+    ensures hears { Hears (L.left link.old) (L.left link.new) heads.old heads.new result }
+    ensures decided { result ≡ Ok answers.More → ⊥ }
+    ensures end { KnowsEnd (L.left link.old) heads.old → KnowsEnd (L.left link.new) heads.new }
+
+    // Why a read failed, and what stays of the link.
+    ensures cause { result ≡ Err SessionEnd.ReadFault → Rose (L.read_faults link.old) (L.read_faults link.new) }
+    ensures later { L.read_faults link.old ≤ L.read_faults link.new }
+    ensures held { L.held link.new ≡ L.held link.old }
+    ensures write_faults { L.write_faults link.new ≡ L.write_faults link.old }
+    ensures same_references { L.Source.references link.new ≡ L.Source.references link.old }
+{
+    loop {
+        match heads.next(alloc)? {
+            Next::More => {
+                if read_piece(link, heads).is_err() {
+                    return Err(SessionEnd::ReadFault);
+                }
+            }
+            next => return Ok(next),
+        }
+    }
+}

@@ -1,0 +1,19 @@
+//! One connection: its requests are read, and each is answered by the edition that stood when it was begun.
+//!
+//! [`serve_link`] knows neither what an edition is nor what a reply says: a [`Responder`] makes the replies.
+//! `specs/Text.antt` says what the text of a connection is, and `specs/Session.antt` what a session did.
+#![tactic(auto)]
+
+mod incoming;
+mod laws;
+mod responder;
+mod serve;
+mod session_end;
+
+pub use laws::each_stream_has_requests;
+pub use responder::Responder;
+pub use serve::serve_link;
+pub use session_end::SessionEnd;
+
+#[cfg(test)]
+mod tests;

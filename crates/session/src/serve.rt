@@ -1,0 +1,152 @@
+//! A session over a link.
+
+ghost use Rattle.std.specs.Prelude.{◌≡◌, ℕ, ◌≤◌, ◌≢◌, length, Ok};
+ghost use Rattle.go_ast.specs.Causes.{Rose};
+ghost use Rattle.http_wire.specs.Reply.{bad_reply_bytes};
+ghost use Rattle.publication.specs.View.{IsOfOneEdition, IsView, StartsWith};
+ghost use Rattle.session.specs.Session.{Session};
+ghost use Rattle.session.specs.Steps.{Refuses, Replies, end_by};
+ghost use Rattle.session.specs.Text.{is_last};
+
+use crate::incoming::next_head;
+use crate::responder::Responder;
+use crate::session_end::SessionEnd;
+use http_wire::{Heads, Next, Request, bad_reply};
+use link_io::{Link, write_whole};
+use publication::EditionReader;
+use std::alloc::Global;
+
+/// The most requests that are answered on one connection.
+const REQUEST_LIMIT: u64 = 1_000;
+
+/// Serves one connection: reads its requests and answers each, in their order, until the session ends.
+///
+/// Each request that is answered is one entry of the reader, and its reply is made of that entry's edition. A
+/// request that closes gets the last reply, and so does the 1,000th. What can't be a request gets the bad reply,
+/// which has no entry. A reply is made whole before its first byte is written, and a session that has failed
+/// writes no more.
+///
+/// The session waits for nobody but the link, and ends on every link: each read takes a byte or ends the input,
+/// and 1,000 heads of at most 8,192 bytes end it.
+pub fn serve_link<L: Link, E: Drop, R: Responder<E>>(
+    alloc: Global,
+    link: &mut L,
+    reader: &mut EditionReader<E>,
+    site: &R,
+) -> SessionEnd
+    // What was read and written, which entries were gained, and why the session ended.
+    ensures session { Session (R.reply_of site.now) (L.left link.old) (L.left link.new)
+        (L.held link.old) (L.held link.new) reader.old reader.new result }
+
+    // On every link a fault is answered only where its count rose in this call, or stands at its end.
+    ensures read_fault { result ≡ SessionEnd.ReadFault → Rose (L.read_faults link.old) (L.read_faults link.new) }
+    ensures write_fault { result ≡ SessionEnd.WriteFault → Rose (L.write_faults link.old) (L.write_faults link.new) }
+    ensures read_faults_later { L.read_faults link.old ≤ L.read_faults link.new }
+    ensures write_faults_later { L.write_faults link.old ≤ L.write_faults link.new }
+    ensures same_references { L.Source.references link.new ≡ L.Source.references link.old }
+
+    // The reader stays one of the same opening, and has seen no less.
+    ensures opening { reader.new.opening ≡ reader.old.opening }
+    ensures later { StartsWith reader.new.seen reader.old.seen }
+    ensures told { reader.new.told ≡ reader.old.told }
+    ensures view { IsView reader.old → IsView reader.new }
+
+    // While there is one edition.
+    ensures one_edition { IsOfOneEdition reader.old → IsOfOneEdition reader.new }
+{
+    match answer_requests(alloc, link, reader, site) {
+        Ok(()) => SessionEnd::Full,
+        Err(end) => end,
+    }
+}
+
+// Whether the connection closes after the reply to a request, by the request's number on the connection.
+fn is_last(number: u64, request: &Request) -> bool
+    ensures { result ≡ is_last number request.now }
+{
+    request.close || number == REQUEST_LIMIT
+}
+
+// Answers the requests until the session ends, or until there were as many as one connection may have.
+fn answer_requests<L: Link, E: Drop, R: Responder<E>>(
+    alloc: Global,
+    link: &mut L,
+    reader: &mut EditionReader<E>,
+    site: &R,
+) -> Result<(), SessionEnd>
+    ensures session { Session (R.reply_of site.now) (L.left link.old) (L.left link.new)
+        (L.held link.old) (L.held link.new) reader.old reader.new (end_by result) }
+    ensures read_fault { end_by result ≡ SessionEnd.ReadFault → Rose (L.read_faults link.old) (L.read_faults link.new) }
+    ensures write_fault { end_by result ≡ SessionEnd.WriteFault → Rose (L.write_faults link.old) (L.write_faults link.new) }
+    ensures read_faults_later { L.read_faults link.old ≤ L.read_faults link.new }
+    ensures write_faults_later { L.write_faults link.old ≤ L.write_faults link.new }
+    ensures same_references { L.Source.references link.new ≡ L.Source.references link.old }
+    ensures opening { reader.new.opening ≡ reader.old.opening }
+    ensures later { StartsWith reader.new.seen reader.old.seen }
+    ensures told { reader.new.told ≡ reader.old.told }
+    ensures view { IsView reader.old → IsView reader.new }
+    ensures one_edition { IsOfOneEdition reader.old → IsOfOneEdition reader.new }
+{
+    let mut heads = Heads::new(alloc)?;
+    for answered in 0..REQUEST_LIMIT {
+        let request = match next_head(alloc, link, &mut heads)? {
+            Next::Head(request) => request,
+            Next::Bad => return Err(refuse(alloc, link)),
+            Next::Clean => return Err(SessionEnd::Closed),
+            Next::More => unreachable!(),
+        };
+        let last = is_last(answered + 1, &request);
+        answer(alloc, link, reader, site, &request, last)?;
+        if request.close {
+            return Err(SessionEnd::Closed);
+        }
+    }
+    Ok(())
+}
+
+// Answers one request by the newest edition. The reply is whole before its first byte is written.
+fn answer<L: Link, E: Drop, R: Responder<E>>(
+    alloc: Global,
+    link: &mut L,
+    reader: &mut EditionReader<E>,
+    site: &R,
+    request: &Request,
+    last: bool,
+) -> Result<(), SessionEnd>
+    ensures replies { Replies (R.reply_of site.now) (L.held link.old) (L.held link.new) reader.old reader.new request.now last result }
+    ensures write_fault { result ≡ Err SessionEnd.WriteFault → Rose (L.write_faults link.old) (L.write_faults link.new) }
+    ensures write_faults_later { L.write_faults link.old ≤ L.write_faults link.new }
+    ensures left { L.left link.new ≡ L.left link.old }
+    ensures read_faults { L.read_faults link.new ≡ L.read_faults link.old }
+    ensures same_references { L.Source.references link.new ≡ L.Source.references link.old }
+    ensures opening { reader.new.opening ≡ reader.old.opening }
+    ensures later { StartsWith reader.new.seen reader.old.seen }
+    ensures told { reader.new.told ≡ reader.old.told }
+    ensures view { IsView reader.new }
+    ensures one_edition { IsOfOneEdition reader.new }
+{
+    let entered = reader.enter()?;
+    let reply = site.reply(alloc, entered.number, &entered.edition, request, last)?;
+    match write_whole(link, &reply) {
+        Ok(()) => Ok(()),
+        Err(_) => Err(SessionEnd::WriteFault),
+    }
+}
+
+// Writes the bad reply, which is the last, and answers how the session ends.
+fn refuse<L: Link>(alloc: Global, link: &mut L) -> SessionEnd
+    ensures refuses { Refuses (L.held link.old) (L.held link.new) result }
+    ensures write_fault { result ≡ SessionEnd.WriteFault → Rose (L.write_faults link.old) (L.write_faults link.new) }
+    ensures write_faults_later { L.write_faults link.old ≤ L.write_faults link.new }
+    ensures left { L.left link.new ≡ L.left link.old }
+    ensures read_faults { L.read_faults link.new ≡ L.read_faults link.old }
+    ensures same_references { L.Source.references link.new ≡ L.Source.references link.old }
+{
+    let Ok(reply) = bad_reply(alloc) else {
+        return SessionEnd::NoMemory;
+    };
+    match write_whole(link, &reply) {
+        Ok(()) => SessionEnd::Refused,
+        Err(_) => SessionEnd::WriteFault,
+    }
+}

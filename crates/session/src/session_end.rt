@@ -1,0 +1,31 @@
+//! Why a session ended.
+
+use go_ast::NoMemory;
+
+/// Why a session ended.
+#[derive(Clone, Copy, Debug, PartialEq, Eq)]
+pub enum SessionEnd {
+    /// The last request that was answered asked for a close, or the input ended between two requests.
+    Closed,
+    /// What came can't be a request that is answered, and the bad reply says so.
+    Refused,
+    /// The 1,000th reply was written, whose request didn't ask for a close.
+    Full,
+    /// A read failed: the link's count of failed reads rose, or stands at its end.
+    ReadFault,
+    /// A write failed: the link's count of failed writes rose, or stands at its end.
+    WriteFault,
+    /// An allocation was refused.
+    NoMemory,
+}
+
+impl From<NoMemory> for SessionEnd {
+    ghost use Rattle.std.specs.Prelude.{◌≡◌};
+    ghost use Rattle.session.specs.declared.session_end.SessionEnd.TheVariants as ends;
+
+    ghost from_gives = { λ _ end. end ≡ ends.NoMemory };
+
+    fn from(_: NoMemory) -> SessionEnd {
+        SessionEnd::NoMemory
+    }
+}
