@@ -36,13 +36,13 @@ IsFindText-append name [] ys a b f g = rw f g
 IsFindText-append name (x ∷ xs) ys a b f g =
     (f.0, f.1 ++ b, f.2, IsFindText-append name xs ys f.1 b f.3 g, ap (λ t. t ++ b) f.4 ∙ append_assoc f.0 f.1 b)
 
-RoseBy-add : (m n a b c : ℕ) → RoseBy m a b → RoseBy n b c → RoseBy (m + n) a c
+pub RoseBy-add : (m n a b c : ℕ) → RoseBy m a b → RoseBy n b c → RoseBy (m + n) a c
 RoseBy-add m n a b c f g = omega (arith, f, g)
 
-unread_count-append : (xs ys : Sources) → unread_count (xs ++ ys) ≡ unread_count xs + unread_count ys
+pub unread_count-append : (xs ys : Sources) → unread_count (xs ++ ys) ≡ unread_count xs + unread_count ys
 unread_count-append xs ys = sum_by-append (λ s. cond (is_unread s.1) 1 0) xs ys
 
-IfSome-all : (P : Contents → List ℕ × Entry → Type 0) (scans : Option (List Contents)) (xs ys : Sources)
+pub IfSome-all : (P : Contents → List ℕ × Entry → Type 0) (scans : Option (List Contents)) (xs ys : Sources)
     → IfSome scans (λ told. All (P (under_way told)) xs) → IfSome scans (λ told. All (P (under_way told)) ys) → IfSome scans (λ told. All (P (under_way told)) (xs ++ ys))
 IfSome-all P None xs ys f g = tt
 IfSome-all P (Some told) xs ys f g = All-append (P (under_way told)) xs ys f g
@@ -58,7 +58,7 @@ FindsSome-append name ps qs scans a b c x y f g = record {
   all = IsFindText-append name f.sources g.sources x y f.all g.all;
 }
 
-IfSome-one : (P : Contents → List ℕ × Entry → Type 0) (scans : Option (List Contents)) (x : List ℕ × Entry)
+pub IfSome-one : (P : Contents → List ℕ × Entry → Type 0) (scans : Option (List Contents)) (x : List ℕ × Entry)
     → IfSome scans (λ told. P (under_way told) x) → IfSome scans (λ told. All (P (under_way told)) (x ∷ []))
 IfSome-one P None x f = tt
 IfSome-one P (Some told) x f = All-cons (P (under_way told)) x [] f (All-nil (P (under_way told)))

@@ -66,7 +66,7 @@ status_of stops.NoMemory = statuses.NoMemory
 -- a status that `find` has
 abbrev pub IsOfFind : Status → Type 0
 IsOfFind statuses.Done = ⊤
-IsOfFind statuses.Usage = ⊤
+IsOfFind statuses.Usage = ⊥
 IsOfFind statuses.TreeFault = ⊤
 IsOfFind statuses.WriteFault = ⊤
 IsOfFind statuses.NoMemory = ⊤

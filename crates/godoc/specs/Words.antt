@@ -2,6 +2,8 @@
 use Rattle.std.specs.Prelude.{ℕ, Bool, true, false, ◌&&◌, ◌||◌, not, List, [], ◌∷◌, Option, Some, None, codes, if◌then◌else◌}
 use Rattle.std.specs.List.{list_all}
 use Rattle.std.specs.Str.{bytes_eq}
+use Rattle.godoc.specs.declared.words.Command as commands
+use Rattle.godoc.specs.declared.words.Command.TheVariants as variants
 use Rattle.go_ast.specs.Lexical.{is_letter, is_letter_or_digit, is_among, keywords}
 
 -- an ASCII letter or `_`, followed by ASCII letters, digits and `_`, that is no keyword
@@ -9,9 +11,21 @@ abbrev pub is_name : List ℕ → Bool
 is_name [] = false
 is_name (c ∷ cs) = (is_letter c && list_all is_letter_or_digit cs) && not (is_among keywords (c ∷ cs))
 
--- the name that the words ask for: they are `find` and a name
-abbrev pub find_name : List (List ℕ) → Option (List ℕ)
-find_name [] = None
-find_name (command ∷ []) = None
-find_name (command ∷ name ∷ []) = if bytes_eq command (codes "find") && is_name name then Some name else None
-find_name (command ∷ name ∷ other ∷ words) = None
+-- what the words ask for
+pub data Command : Type 0 where
+  -- the places of a name
+  find : List ℕ → Command
+  -- the replies to the requests of one connection
+  answer : Command
+
+-- the words are `answer` alone, or `find` and a name
+abbrev pub command_of : List (List ℕ) → Option Command
+command_of [] = None
+command_of (word ∷ []) = if bytes_eq word (codes "answer") then Some answer else None
+command_of (word ∷ name ∷ []) = if bytes_eq word (codes "find") && is_name name then Some (find name) else None
+command_of (word ∷ name ∷ other ∷ words) = None
+
+-- a command of the program, by what it asks for
+abbrev pub asked : commands.Command → Command
+asked (variants.Find name) = find name.now
+asked variants.Answer = answer

@@ -16,7 +16,7 @@ use std::alloc::Global;
 use tree_io::{Entry, Tree};
 
 /// Reads a file of the scan under way: `Unread` where the read fails.
-fn read_entry<T: Tree>(alloc: Global, tree: &mut T, path: &str) -> Mem<Entry>
+pub(crate) fn read_entry<T: Tree>(alloc: Global, tree: &mut T, path: &str) -> Mem<Entry>
     requires { ForSome (T.scans tree.old) (λ told. IsSome (bytes_at (under_way told) path.now)) }
     ensures from { IfOk result (λ entry. IfSome (T.scans tree.old) (λ told. IsFrom (under_way told) (path.now, entry))) }
     ensures few_unread { IfOk result (λ entry. RoseBy (unread_count ((path.now, entry) ∷ [])) (T.read_faults tree.old) (T.read_faults tree.new)) }

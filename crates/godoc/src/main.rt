@@ -1,15 +1,22 @@
 //! godoc: a documentation server for trees of Go source.
 //!
 //! `godoc ROOT find NAME` prints where a name stands as an identifier in the Go files under a folder.
+//! `godoc ROOT answer` answers the HTTP requests of standard input by pages on the packages under a folder.
 #![tactic(auto)]
 
+mod answer;
+mod edition;
 mod find;
 mod lines;
+mod pages;
 mod position;
 mod run;
+mod site;
 mod status;
 #[cfg(test)]
 mod tests;
+#[cfg(test)]
+mod tests_answer;
 mod words;
 
 use link_io::{StdSink, StdSource};

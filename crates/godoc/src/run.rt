@@ -1,24 +1,31 @@
 //! The top call: everything that the program does.
 
-ghost use Rattle.std.specs.Prelude.{◌≡◌, ◌⊎◌, ◌↔◌, ℕ, List, Some, None, map, string_bytes};
+ghost use Rattle.std.specs.Prelude.{◌≡◌, ◌≢◌, ◌⊎◌, ◌↔◌, ℕ, List, Some, None, map, string_bytes};
 ghost use Rattle.go_ast.specs.Causes.{Rose};
 ghost use Rattle.tree_io.specs.Scans.{OpensScan};
-ghost use Rattle.godoc.specs.Words.{find_name};
+ghost use Rattle.godoc.specs.Words.{answer, command_of, find};
 ghost use Rattle.godoc.specs.Outcome.{IsOfFind, OpensAtMostOne, WritesFound, WritesFront};
+ghost use Rattle.godoc.specs.Serving.{Answers, IsOfAnswer};
 
+use crate::answer::answer;
 use crate::find::find;
 use crate::status::Status;
-use crate::words::find_name;
+use crate::words::{Command, command_of};
 use link_io::{Sink, Source};
 use std::alloc::Global;
 use tree_io::Tree;
 
 /// Does what the words of the command line ask for, and answers how it ended.
 ///
-/// The words are `find` and an identifier that is no keyword; all other words are answered `Usage`. It
-/// opens a scan of the tree, reads and scans its files one after another, and writes a line
-/// `PATH:LINE:COL` for each identifier with that name, by rising path and offset. Lines and columns are
-/// counted from 1, and columns in bytes. Files that can't be read or scanned are passed over.
+/// The words `find` and an identifier that is no keyword ask for the places of a name. The call opens a scan
+/// of the tree, reads and scans its files one after another, and writes a line `PATH:LINE:COL` for each
+/// identifier with that name, by rising path and offset. Lines and columns are counted from 1, and columns
+/// in bytes. Files that can't be read or scanned are passed over.
+///
+/// The word `answer` alone asks for the replies to the requests of one connection. The call scans the tree
+/// once, and serves the input and the output as the two ways of the connection, by the packages that the
+/// scan found. It ends with the input, after a request that closes, after what can't be a request, and after
+/// 1,000 replies. All other words are answered `Usage`.
 pub fn run<R, T: Tree, I: Source, O: Sink>(
     _rt: &R,
     alloc: Global,
@@ -27,37 +34,55 @@ pub fn run<R, T: Tree, I: Source, O: Sink>(
     input: &mut I,
     out: &mut O,
 ) -> Status
-    ensures usage { (result ≡ Status.Usage) ↔ (find_name (map string_bytes words.now) ≡ None) }
+    // What the words decide.
+    ensures usage { (result ≡ Status.Usage) ↔ (command_of (map string_bytes words.now) ≡ None) }
     ensures usage_leaves_tree { result ≡ Status.Usage → tree.new ≡ tree.old }
+    ensures usage_leaves_input { result ≡ Status.Usage → input.new ≡ input.old }
     ensures usage_leaves_output { result ≡ Status.Usage → out.new ≡ out.old }
-    ensures input_unread { input.new ≡ input.old }
+    ensures find_leaves_input { (name : List ℕ) → command_of (map string_bytes words.now) ≡ Some (find name) → input.new ≡ input.old }
+    ensures find_statuses { (name : List ℕ) → command_of (map string_bytes words.now) ≡ Some (find name) → IsOfFind result }
+    ensures answer_statuses { command_of (map string_bytes words.now) ≡ Some answer → IsOfAnswer result }
 
     // No answer without its cause.
     ensures tree_fault { result ≡ Status.TreeFault → Rose (T.list_faults tree.old) (T.list_faults tree.new) }
+    ensures unread { result ≡ Status.TreeFault → input.new ≡ input.old }
     ensures unwritten { result ≡ Status.TreeFault → out.new ≡ out.old }
+    ensures read_fault { result ≡ Status.ReadFault → Rose (I.read_faults input.old) (I.read_faults input.new) }
     ensures write_fault { result ≡ Status.WriteFault → Rose (O.write_faults out.old) (O.write_faults out.new) }
-    ensures no_other { IsOfFind result }
 
     ensures at_most_one_scan { OpensAtMostOne (T.scans tree.old) (T.scans tree.new) }
     ensures one_scan { result ≡ Status.Done → OpensScan (T.scans tree.old) (T.scans tree.new) }
 
     // Exactly the text of `find` over the sources of that scan, or a first part of it.
-    ensures found { (name : List ℕ) → find_name (map string_bytes words.now) ≡ Some name → result ≡ Status.Done
+    ensures found { (name : List ℕ) → command_of (map string_bytes words.now) ≡ Some (find name) → result ≡ Status.Done
         → WritesFound name (T.scans tree.new) (T.read_faults tree.old) (T.read_faults tree.new) (O.held out.old) (O.held out.new) }
-    ensures front { (name : List ℕ) → find_name (map string_bytes words.now) ≡ Some name
+    ensures front { (name : List ℕ) → command_of (map string_bytes words.now) ≡ Some (find name)
         → (result ≡ Status.WriteFault) ⊎ (result ≡ Status.NoMemory)
         → WritesFront name (T.scans tree.new) (T.read_faults tree.old) (T.read_faults tree.new) (O.held out.old) (O.held out.new) }
 
-    // Where no count of faults rose, only want of memory keeps it from its end.
-    ensures complete { (name : List ℕ) → find_name (map string_bytes words.now) ≡ Some name
-        → (Rose (T.list_faults tree.old) (T.list_faults tree.new) → ⊥) → (Rose (O.write_faults out.old) (O.write_faults out.new) → ⊥)
+    // Exactly the text of the connection, by the one edition that the sources of that scan define, or what a
+    // session leaves that fails. Where memory is wanting for the edition nothing is read or written.
+    ensures answered { command_of (map string_bytes words.now) ≡ Some answer → result ≢ Status.TreeFault → result ≢ Status.NoMemory
+        → Answers (T.scans tree.new) (T.read_faults tree.old) (T.read_faults tree.new) (I.left input.old) (I.left input.new) (O.held out.old) (O.held out.new) result }
+    ensures starved { command_of (map string_bytes words.now) ≡ Some answer → result ≡ Status.NoMemory
+        → ((input.new ≡ input.old) × (out.new ≡ out.old))
+        ⊎ Answers (T.scans tree.new) (T.read_faults tree.old) (T.read_faults tree.new) (I.left input.old) (I.left input.new) (O.held out.old) (O.held out.new) result }
+
+    // Where no count of faults rose, only want of memory keeps a command from its end.
+    ensures complete { (command_of (map string_bytes words.now) ≡ None → ⊥)
+        → (Rose (T.list_faults tree.old) (T.list_faults tree.new) → ⊥)
+        → (Rose (I.read_faults input.old) (I.read_faults input.new) → ⊥)
+        → (Rose (O.write_faults out.old) (O.write_faults out.new) → ⊥)
         → (result ≡ Status.Done) ⊎ (result ≡ Status.NoMemory) }
 {
-    let Some(name) = find_name(words) else {
+    let Some(command) = command_of(words) else {
         return Status::Usage;
     };
-    match find(alloc, name, tree, out) {
-        Ok(()) => Status::Done,
-        Err(stop) => Status::from(stop),
+    match command {
+        Command::Find(name) => match find(alloc, name, tree, out) {
+            Ok(()) => Status::Done,
+            Err(stop) => Status::from(stop),
+        },
+        Command::Answer => answer(alloc, tree, input, out),
     }
 }

@@ -1,9 +1,11 @@
 //! How a run ended, and why one stopped before its end.
 
+use session::SessionEnd;
+
 /// How a run ended.
 #[derive(Clone, Copy, Debug, PartialEq, Eq)]
 pub enum Status {
-    /// All was written.
+    /// All was written. After `answer` its session ended closed, refused or full.
     Done,
     /// The words are no command.
     Usage,
@@ -48,6 +50,22 @@ impl From<Stop> for Status {
             Stop::TreeFault => Status::TreeFault,
             Stop::WriteFault => Status::WriteFault,
             Stop::NoMemory => Status::NoMemory,
+        }
+    }
+}
+
+impl From<SessionEnd> for Status {
+    ghost use Rattle.std.specs.Prelude.{◌≡◌};
+    ghost use Rattle.godoc.specs.Serving.{status_after};
+
+    ghost from_gives = { λ end status. status ≡ status_after end };
+
+    fn from(end: SessionEnd) -> Status {
+        match end {
+            SessionEnd::Closed | SessionEnd::Refused | SessionEnd::Full => Status::Done,
+            SessionEnd::ReadFault => Status::ReadFault,
+            SessionEnd::WriteFault => Status::WriteFault,
+            SessionEnd::NoMemory => Status::NoMemory,
         }
     }
 }

@@ -1,26 +1,34 @@
 //! The words of the command line.
 
-ghost use Rattle.std.specs.Prelude.{◌≡◌, map, string_bytes};
+ghost use Rattle.std.specs.Prelude.{◌≡◌, map, option_map, string_bytes};
 ghost use Rattle.std.specs.List.{list_all};
-ghost use Rattle.std.specs.Option.{option_copied};
 ghost use Rattle.go_ast.specs.Lexical.{is_letter, is_letter_or_digit};
-ghost use Rattle.godoc.specs.Words.{find_name, is_name};
+ghost use Rattle.godoc.specs.Words.{asked, command_of, is_name};
 
 use go_scanner::is_keyword;
 
-/// The name that the words ask for: they are `find` and an identifier that is no keyword. `None` for all
-/// other words.
-pub(crate) fn find_name(words: &[String]) -> Option<&str>
-    ensures { option_copied result ≡ find_name (map string_bytes words.now) }
+/// What the program is asked for.
+#[derive(Clone, Copy, Debug)]
+pub(crate) enum Command<'a> {
+    /// The places where a name stands as an identifier.
+    Find(&'a str),
+    /// The replies to the requests of one connection.
+    Answer,
+}
+
+/// The command that the words ask for: they are `answer` alone, or `find` and an identifier that is no
+/// keyword. `None` for all other words.
+pub(crate) fn command_of(words: &[String]) -> Option<Command<'_>>
+    ensures { option_map asked result ≡ command_of (map string_bytes words.now) }
 {
     match words {
+        [command] if command.as_str() == "answer" => Some(Command::Answer),
         [command, name] if command.as_str() == "find" && is_name(name.as_str()) => {
-            Some(name.as_str())
+            Some(Command::Find(name.as_str()))
         }
         _ => None,
     }
 }
-
 /// Whether a byte is an ASCII letter or `_`.
 fn is_letter(byte: u8) -> bool
     ensures { result ≡ is_letter byte }

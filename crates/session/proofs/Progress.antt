@@ -1,5 +1,5 @@
 -- How far a session has come, and how each of its steps goes on from there.
-use Rattle.std.proofs.Common.{◌≡◌, ◌≢◌, ℕ, ◌+◌, ◌-◌, ◌<◌, ◌≤◌, ◌↔◌, Bool, true, false, cond, ◌||◌, eqb, List, [], ◌∷◌, ◌++◌, length, take, drop, Option, Some, None, Ok, Err, refl, sym, ap, ◌∙◌, subst, arith, append_assoc, append-nil, length-append, inl, inr, ⊎_elim}
+use Rattle.std.proofs.Common.{◌⊎◌, ◌≡◌, ◌≢◌, ℕ, ◌+◌, ◌-◌, ◌<◌, ◌≤◌, ◌↔◌, Bool, true, false, cond, ◌||◌, eqb, List, [], ◌∷◌, ◌++◌, length, take, drop, Option, Some, None, Ok, Err, refl, sym, ap, ◌∙◌, subst, arith, append_assoc, append-nil, length-append, inl, inr, ⊎_elim}
 use Rattle.std.specs.Prelude.{IsSome, All, IfSome, IsTrue}
 use Rattle.std.specs.List.{concat}
 use Rattle.std.proofs.lemmas.Bool.{false≢true}
@@ -18,10 +18,10 @@ use Rattle.session.specs.declared.session_end.SessionEnd.{SessionEnd}
 use Rattle.session.specs.declared.session_end.SessionEnd.TheVariants as ends
 use Rattle.session.specs.Incoming.{Hears, KnowsEnd}
 use Rattle.session.specs.Session.{Session, IsAnswered}
-use Rattle.session.specs.Steps.{Enters, Replies, Refuses, newest_reply}
+use Rattle.session.specs.Steps.{Writes, Refuses}
 use Rattle.session.specs.Text.{Replier, is_last, answerable, answerable_from, edition_at, replies_from, some_closes, is_bad, refusal, end_at}
 use Rattle.session.proofs.AnsweredLemmas.{answerable-begins, answerable-next, answerable-closed, answerable-all, answerable-limit, some_closes-append, refusal-at_end, refusal-closed, refusal-full, end_of-at_end, end_of-closed, end_of-full, answered_starved, answered_cut, answered_whole}
-use Rattle.session.proofs.ReplyLemmas.{StartsWith-then}
+use Rattle.session.proofs.ReplyLemmas.{Enters, newest_reply, StartsWith-then}
 use Rattle.session.proofs.StreamLaws.{Requests-split, ended_where_clean, bad_at_end}
 use Rattle.session.proofs.TextLemmas.{edition_at-grown, replies-grown, replies-push, length-replies, concat-push, concat-split, closes_last}
 
@@ -433,40 +433,61 @@ Session-refused reply left middle after held held_now held_after old view readin
 Session-refused reply left middle after held held_now held_after old view reading now count so_far room hears at_end ends.Full none = absurd none
 Session-refused reply left middle after held held_now held_after old view reading now count so_far room hears at_end ends.ReadFault none = absurd none
 
+-- memory was wanting behind an entry
+starved_with_entry : {E : Type 0} (reply : Replier E) (left middle after held held_now : Option (List ℕ)) (old view new : View E) (reading now : Reading) (count : ℕ) (request : Request)
+    → Progress reply left middle held held_now old view reading.rest count → count < 1000
+    → Hears middle after reading now (Ok (answers.Head request)) → KnowsEnd after now
+    → StartsWith new.seen view.seen → Enters view new
+    → Session reply left after held held_now old new ends.NoMemory
+starved_with_entry reply left middle after held held_now old view new reading now count request so_far room hears at_end later enters =
+    let fed : List ℕ = so_far.read ++ hears.bytes in
+    let heard = hears.comes so_far.read so_far.given so_far.has_given in
+    let last : Bool = is_last (count + 1) request in
+    Session-from reply left after held held_now old new ends.NoMemory fed so_far.written (so_far.entries ++ length new.seen ∷ []) now.ended
+    (Takes-then left middle after so_far.read hears.bytes so_far.takes hears.takes) so_far.adds
+    (gains_with so_far new request last enters later refl) (known_with so_far new request last enters later refl) (fresh_with so_far new request last enters later refl) at_end (λ e. cc)
+    (λ ended after_end fault requests end all. starved_after_entry so_far new request last enters later refl room fed now.rest ended heard requests end all)
+
+-- an entry was refused, and is there or not
+pub Session-unentered : {E : Type 0} (reply : Replier E) (left middle after held held_now : Option (List ℕ)) (old view new : View E) (reading now : Reading) (count : ℕ) (request : Request)
+    → Progress reply left middle held held_now old view reading.rest count → count < 1000
+    → Hears middle after reading now (Ok (answers.Head request)) → KnowsEnd after now
+    → StartsWith new.seen view.seen → (new ≡ view) ⊎ Enters view new
+    → Session reply left after held held_now old new ends.NoMemory
+Session-unentered {E = E} reply left middle after held held_now old view new reading now count request so_far room hears at_end later entry =
+    let fed : List ℕ = so_far.read ++ hears.bytes in
+    let heard = hears.comes so_far.read so_far.given so_far.has_given in
+    let takes : Takes left fed after = Takes-then left middle after so_far.read hears.bytes so_far.takes hears.takes in
+    ⊎_elim
+    (λ same. subst (λ (w : View E). Session reply left after held held_now old w ends.NoMemory) (sym same)
+    (Session-from reply left after held held_now old view ends.NoMemory fed so_far.written so_far.entries now.ended takes so_far.adds so_far.gains so_far.known so_far.fresh at_end (λ e. cc)
+    (λ ended after_end fault requests end all. starved_before_entry so_far request room fed now.rest ended heard requests end all)))
+    (λ enters. starved_with_entry reply left middle after held held_now old view new reading now count request so_far room hears at_end later enters)
+    entry
+
 -- a reply wasn't written whole, or wasn't made
 pub Session-unanswered : {E : Type 0} (reply : Replier E) (left middle after held held_now held_after : Option (List ℕ)) (old view new : View E) (reading now : Reading) (count : ℕ) (request : Request) (last : Bool)
     → Progress reply left middle held held_now old view reading.rest count → count < 1000
     → Hears middle after reading now (Ok (answers.Head request)) → KnowsEnd after now
-    → StartsWith new.seen view.seen → last ≡ is_last (count + 1) request
-    → (end : SessionEnd) → Replies reply held_now held_after view new request last (Err end)
+    → Enters view new → StartsWith new.seen view.seen → last ≡ is_last (count + 1) request
+    → (end : SessionEnd) → Writes (newest_reply reply new request last) held_now held_after (Err end)
     → Session reply left after held held_after old new end
-Session-unanswered reply left middle after held held_now held_after old view new reading now count request last so_far room hears at_end later last_is ends.WriteFault replied =
+Session-unanswered reply left middle after held held_now held_after old view new reading now count request last so_far room hears at_end enters later last_is ends.WriteFault part =
     let fed : List ℕ = so_far.read ++ hears.bytes in
     let heard = hears.comes so_far.read so_far.given so_far.has_given in
     let made : List ℕ = newest_reply reply new request last in
-    let part = replied.1 in
     Session-from reply left after held held_after old new ends.WriteFault fed (so_far.written ++ take part.0 made) (so_far.entries ++ length new.seen ∷ []) now.ended
     (Takes-then left middle after so_far.read hears.bytes so_far.takes hears.takes) (Adds-then held held_now held_after so_far.written (take part.0 made) so_far.adds part.2)
-    (gains_with so_far new request last replied.0 later last_is) (known_with so_far new request last replied.0 later last_is) (fresh_with so_far new request last replied.0 later last_is) at_end (λ e. cc)
-    (λ ended after_end fault requests end all.
-    cut_in_reply so_far new request last replied.0 later last_is room fed now.rest ended heard part.0 requests end all)
-Session-unanswered {E = E} reply left middle after held held_now held_after old view new reading now count request last so_far room hears at_end later last_is ends.NoMemory replied =
-    let fed : List ℕ = so_far.read ++ hears.bytes in
-    let heard = hears.comes so_far.read so_far.given so_far.has_given in
-    let adds : Adds held so_far.written held_after = subst (Adds held so_far.written) (sym replied.1) so_far.adds in
-    let takes : Takes left fed after = Takes-then left middle after so_far.read hears.bytes so_far.takes hears.takes in
-    ⊎_elim
-    (λ same. subst (λ (w : View E). Session reply left after held held_after old w ends.NoMemory) (sym same)
-    (Session-from reply left after held held_after old view ends.NoMemory fed so_far.written so_far.entries now.ended takes adds so_far.gains so_far.known so_far.fresh at_end (λ e. cc)
-    (λ ended after_end fault requests end all. starved_before_entry so_far request room fed now.rest ended heard requests end all)))
-    (λ enters. Session-from reply left after held held_after old new ends.NoMemory fed so_far.written (so_far.entries ++ length new.seen ∷ []) now.ended takes adds
     (gains_with so_far new request last enters later last_is) (known_with so_far new request last enters later last_is) (fresh_with so_far new request last enters later last_is) at_end (λ e. cc)
-    (λ ended after_end fault requests end all. starved_after_entry so_far new request last enters later last_is room fed now.rest ended heard requests end all))
-    replied.0
-Session-unanswered reply left middle after held held_now held_after old view new reading now count request last so_far room hears at_end later last_is ends.Closed none = absurd none
-Session-unanswered reply left middle after held held_now held_after old view new reading now count request last so_far room hears at_end later last_is ends.Refused none = absurd none
-Session-unanswered reply left middle after held held_now held_after old view new reading now count request last so_far room hears at_end later last_is ends.Full none = absurd none
-Session-unanswered reply left middle after held held_now held_after old view new reading now count request last so_far room hears at_end later last_is ends.ReadFault none = absurd none
+    (λ ended after_end fault requests end all.
+    cut_in_reply so_far new request last enters later last_is room fed now.rest ended heard part.0 requests end all)
+Session-unanswered reply left middle after held held_now held_after old view new reading now count request last so_far room hears at_end enters later last_is ends.NoMemory same =
+    subst (λ w. Session reply left after held w old new ends.NoMemory) (sym same)
+    (starved_with_entry reply left middle after held held_now old view new reading now count request so_far room hears at_end later enters)
+Session-unanswered reply left middle after held held_now held_after old view new reading now count request last so_far room hears at_end enters later last_is ends.Closed none = absurd none
+Session-unanswered reply left middle after held held_now held_after old view new reading now count request last so_far room hears at_end enters later last_is ends.Refused none = absurd none
+Session-unanswered reply left middle after held held_now held_after old view new reading now count request last so_far room hears at_end enters later last_is ends.Full none = absurd none
+Session-unanswered reply left middle after held held_now held_after old view new reading now count request last so_far room hears at_end enters later last_is ends.ReadFault none = absurd none
 
 -- the last request asked for a close
 pub Session-closed : {E : Type 0} (reply : Replier E) (left middle after held held_now held_after : Option (List ℕ)) (old view new : View E) (reading now : Reading) (count : ℕ) (request : Request) (last : Bool)

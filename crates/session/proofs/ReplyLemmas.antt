@@ -5,8 +5,16 @@ use Rattle.std.specs.Option.{option_map_or}
 use Rattle.std.proofs.lemmas.List.{get_or_push}
 use Rattle.http_wire.specs.declared.request.Request.{Request}
 use Rattle.publication.specs.View.{View, EndsWith, StartsWith, GainsEntry, IsView}
-use Rattle.session.specs.Text.{Replier, edition_at}
-use Rattle.session.specs.Steps.{newest_reply, Enters}
+use Rattle.session.specs.Text.{Replier, edition_at, reply_by}
+
+-- the view gained one entry, that of the newest edition that it has seen
+pub record Enters {E : Type 0} (old new : View E) : Type 0 where
+  pub entry : GainsEntry old new
+  pub known : IsSome (edition_at new.seen (length new.seen))
+
+-- the reply of the newest edition that the view has seen
+abbrev pub newest_reply : {E : Type 0} → Replier E → View E → Request → Bool → List ℕ
+newest_reply reply view request last = reply_by reply view.seen (length view.seen) request last
 
 pub StartsWith-then : {E : Type 0} (first second third : List E) → StartsWith second first → StartsWith third second → StartsWith third first
 StartsWith-then {E} first second third x y =
@@ -50,11 +58,8 @@ newest_reply-is {E} reply view request last newest ends =
     ap (λ (w : Option E). option_map_or (λ (edition : E). reply (length view.seen) edition request last) w [])
     (edition_at-newest view.seen newest ends)
 
--- what was made for the entry is the reply by it
-pub newest_reply-made : {E : Type 0} (reply : Replier E) (view : View E) (request : Request) (last : Bool) (number : ℕ) (edition newest : E) (made bytes : List ℕ)
-    → EndsWith view.seen newest → number ≡ length view.seen → edition ≡ newest → made ≡ reply number edition request last → bytes ≡ made
-    → bytes ≡ newest_reply reply view request last
-newest_reply-made {E} reply view request last number edition newest made bytes ends number_is edition_is made_is bytes_is =
-    bytes_is ∙ made_is ∙ ap (λ (w : ℕ). reply w edition request last) number_is
-    ∙ ap (λ (w : E). reply (length view.seen) w request last) edition_is
-    ∙ sym (newest_reply-is reply view request last newest ends)
+-- the reply that is made for the entry is the reply by it
+pub newest_reply-made : {E : Type 0} (reply : Replier E) (view : View E) (request : Request) (last : Bool) (number : ℕ) (newest : E)
+    → EndsWith view.seen newest → number ≡ length view.seen → reply number newest request last ≡ newest_reply reply view request last
+newest_reply-made {E} reply view request last number newest ends number_is =
+    ap (λ (w : ℕ). reply w newest request last) number_is ∙ sym (newest_reply-is reply view request last newest ends)

@@ -1,11 +1,11 @@
 //! A session over a link.
 
 ghost use Rattle.std.specs.Prelude.{◌≡◌, ℕ, ◌≤◌, ◌≢◌, length, Ok};
+ghost use Rattle.std.specs.Arc.{arc_value};
 ghost use Rattle.go_ast.specs.Causes.{Rose};
-ghost use Rattle.http_wire.specs.Reply.{bad_reply_bytes};
 ghost use Rattle.publication.specs.View.{IsOfOneEdition, IsView, StartsWith};
 ghost use Rattle.session.specs.Session.{Session};
-ghost use Rattle.session.specs.Steps.{Refuses, Replies, end_by};
+ghost use Rattle.session.specs.Steps.{Refuses, Writes, end_by};
 ghost use Rattle.session.specs.Text.{is_last};
 
 use crate::incoming::next_head;
@@ -13,7 +13,7 @@ use crate::responder::Responder;
 use crate::session_end::SessionEnd;
 use http_wire::{Heads, Next, Request, bad_reply};
 use link_io::{Link, write_whole};
-use publication::EditionReader;
+use publication::{EditionReader, Entered};
 use std::alloc::Global;
 
 /// The most requests that are answered on one connection.
@@ -95,8 +95,9 @@ fn answer_requests<L: Link, E: Drop, R: Responder<E>>(
             Next::Clean => return Err(SessionEnd::Closed),
             Next::More => unreachable!(),
         };
+        let entered = reader.enter()?;
         let last = is_last(answered + 1, &request);
-        answer(alloc, link, reader, site, &request, last)?;
+        answer(alloc, link, site, &entered, &request, last)?;
         if request.close {
             return Err(SessionEnd::Closed);
         }
@@ -104,28 +105,23 @@ fn answer_requests<L: Link, E: Drop, R: Responder<E>>(
     Ok(())
 }
 
-// Answers one request by the newest edition. The reply is whole before its first byte is written.
-fn answer<L: Link, E: Drop, R: Responder<E>>(
+// Answers one request by the edition of an entry. The reply is whole before its first byte is written.
+fn answer<L: Link, E, R: Responder<E>>(
     alloc: Global,
     link: &mut L,
-    reader: &mut EditionReader<E>,
     site: &R,
+    entered: &Entered<E>,
     request: &Request,
     last: bool,
 ) -> Result<(), SessionEnd>
-    ensures replies { Replies (R.reply_of site.now) (L.held link.old) (L.held link.new) reader.old reader.new request.now last result }
+    ensures writes { Writes (R.reply_of site.now entered.now.number (arc_value entered.now.edition) request.now last)
+        (L.held link.old) (L.held link.new) result }
     ensures write_fault { result ≡ Err SessionEnd.WriteFault → Rose (L.write_faults link.old) (L.write_faults link.new) }
     ensures write_faults_later { L.write_faults link.old ≤ L.write_faults link.new }
     ensures left { L.left link.new ≡ L.left link.old }
     ensures read_faults { L.read_faults link.new ≡ L.read_faults link.old }
     ensures same_references { L.Source.references link.new ≡ L.Source.references link.old }
-    ensures opening { reader.new.opening ≡ reader.old.opening }
-    ensures later { StartsWith reader.new.seen reader.old.seen }
-    ensures told { reader.new.told ≡ reader.old.told }
-    ensures view { IsView reader.new }
-    ensures one_edition { IsOfOneEdition reader.new }
 {
-    let entered = reader.enter()?;
     let reply = site.reply(alloc, entered.number, &entered.edition, request, last)?;
     match write_whole(link, &reply) {
         Ok(()) => Ok(()),
@@ -142,10 +138,10 @@ fn refuse<L: Link>(alloc: Global, link: &mut L) -> SessionEnd
     ensures read_faults { L.read_faults link.new ≡ L.read_faults link.old }
     ensures same_references { L.Source.references link.new ≡ L.Source.references link.old }
 {
-    let Ok(reply) = bad_reply(alloc) else {
+    let Ok(refusal) = bad_reply(alloc) else {
         return SessionEnd::NoMemory;
     };
-    match write_whole(link, &reply) {
+    match write_whole(link, &refusal) {
         Ok(()) => SessionEnd::Refused,
         Err(_) => SessionEnd::WriteFault,
     }

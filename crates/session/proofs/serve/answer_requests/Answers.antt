@@ -1,9 +1,10 @@
 -- Each way out of the session, and one request more.
-use Rattle.std.proofs.Common.{Option, List, ℕ, Err, rules, subst, arith}
+use Rattle.std.proofs.Common.{⊎_elim, inl, inr, Option, List, ℕ, Err, rules, subst, arith}
 use Rattle.std.proofs.lemmas.Result.{err_from_is_err_and}
-use Rattle.session.proofs.Progress.{Session-full, Session-unanswered, Session-refused, Session-closed, Session-clean, Session-unheard, Progress-more, Session-unbegun}
-use Rattle.session.proofs.ReplyLemmas.{StartsWith-then}
-use Rattle.session.specs.Steps.{Replies, Refuses}
+use Rattle.session.proofs.Progress.{Session-full, Session-unanswered, Session-refused, Session-closed, Session-clean, Session-unheard, Session-unentered, Progress-more, Session-unbegun}
+use Rattle.session.proofs.ReplyLemmas.{newest_reply, StartsWith-then, known_entry, newest_reply-made}
+use Rattle.link_io.specs.Streams.{Adds}
+use Rattle.session.specs.Steps.{Writes, Refuses}
 use Rattle.session.proofs.serve.answer_requests.Goals as goal
 
 pub returns-in_err-heads-clause-session : goal.returns-in_err-heads-clause-session
@@ -30,41 +31,56 @@ returns-in-Clean-clause-session g c =
     rw c.next_head.ensures.held
     (Session-clean _ _ _ _ _ _ _ _ _ _ _ c.loop-answered.invariant.progress (omega arith) hears (c.next_head.ensures.end c.loop-answered.invariant.end))
 
+pub returns-in_err-entered-clause-session : goal.returns-in_err-entered-clause-session
+returns-in_err-entered-clause-session g c =
+    let hears = rw c.in-Head.is at c.in_ok-request.ensures.hears in
+    let p = err_from_is_err_and c.from_residual-in_err-entered.result c.from_residual-in_err-entered.ensures.1 in
+    rw (p.1, p.2, c.next_head.ensures.held)
+    (Session-unentered _ _ _ _ _ _ _ _ _ _ _ _ _ c.loop-answered.invariant.progress (omega arith) hears (c.next_head.ensures.end c.loop-answered.invariant.end)
+    c.in_err-entered.ensures.later (⊎_elim inl (λ gains. inr (known_entry _ _ c.in_err-entered.ensures.view gains)) c.in_err-entered.ensures.refused))
+
 pub returns-in_err-answer-clause-session : goal.returns-in_err-answer-clause-session
 returns-in_err-answer-clause-session g c =
     let hears = rw c.in-Head.is at c.in_ok-request.ensures.hears in
+    let enters = known_entry _ _ c.in_ok-entered.ensures.view c.in_ok-entered.ensures.entry in
+    let made = newest_reply-made (g.R.Responder.reply_of c.args.site.now) c.enter.new.self c.in-Head.request c.is_last-last.result _ _ c.in_ok-entered.ensures.newest c.in_ok-entered.ensures.number in
     let p = err_from_is_err_and c.from_residual-in_err-answer.result c.from_residual-in_err-answer.ensures.1 in
+    let writes = subst (λ (w : List ℕ). Writes w (g.L.Sink.held c.next_head.new.link) (g.L.Sink.held c.answer.new.link) (Err c.in_err-answer.field-0.0)) made c.in_err-answer.ensures.writes in
     rw (p.1, p.2, c.answer.ensures.left)
     (Session-unanswered _ _ _ _ _ _ _ _ _ _ _ _ _ _ _ c.loop-answered.invariant.progress (omega arith) hears (c.next_head.ensures.end c.loop-answered.invariant.end)
-    c.answer.ensures.later c.is_last-last.ensures _
-    (subst (λ (w : Option (List ℕ)). Replies (g.R.Responder.reply_of c.args.site.now) w (g.L.Sink.held c.answer.new.link) c.loop-answered.reader c.answer.new.reader c.in-Head.request c.is_last-last.result (Err c.in_err-answer.field-0.0))
-    c.next_head.ensures.held c.in_err-answer.ensures.replies))
+    enters c.in_ok-entered.ensures.later c.is_last-last.ensures _
+    (subst (λ (w : Option (List ℕ)). Writes (newest_reply (g.R.Responder.reply_of c.args.site.now) c.enter.new.self c.in-Head.request c.is_last-last.result) w (g.L.Sink.held c.answer.new.link) (Err c.in_err-answer.field-0.0))
+    c.next_head.ensures.held writes))
 
 pub returns-then-request-clause-session : goal.returns-then-request-clause-session
 returns-then-request-clause-session g c =
     let hears = rw c.in-Head.is at c.in_ok-request.ensures.hears in
-    let replied = c.in_ok-answer.ensures.replies in
+    let enters = known_entry _ _ c.in_ok-entered.ensures.view c.in_ok-entered.ensures.entry in
+    let made = newest_reply-made (g.R.Responder.reply_of c.args.site.now) c.enter.new.self c.in-Head.request c.is_last-last.result _ _ c.in_ok-entered.ensures.newest c.in_ok-entered.ensures.number in
+    let adds = subst (λ (w : List ℕ). Adds (g.L.Sink.held c.next_head.new.link) w (g.L.Sink.held c.answer.new.link)) made c.in_ok-answer.ensures.writes in
     rw c.answer.ensures.left
     (Session-closed _ _ _ _ _ _ _ _ _ _ _ _ _ _ _ c.loop-answered.invariant.progress (omega arith) hears (c.next_head.ensures.end c.loop-answered.invariant.end)
-    replied.0 c.answer.ensures.later c.is_last-last.ensures (rw c.next_head.ensures.held at replied.1) c.if-request.true)
+    enters c.in_ok-entered.ensures.later c.is_last-last.ensures (rw c.next_head.ensures.held at adds) c.if-request.true)
 
 pub loop-answered-preserved : goal.loop-answered-preserved
 loop-answered-preserved g c =
     let hears = rw c.in-Head.is at c.in_ok-request.ensures.hears in
-    let replied = c.in_ok-answer.ensures.replies in
+    let enters = known_entry _ _ c.in_ok-entered.ensures.view c.in_ok-entered.ensures.entry in
+    let made = newest_reply-made (g.R.Responder.reply_of c.args.site.now) c.enter.new.self c.in-Head.request c.is_last-last.result _ _ c.in_ok-entered.ensures.newest c.in_ok-entered.ensures.number in
+    let adds = subst (λ (w : List ℕ). Adds (g.L.Sink.held c.next_head.new.link) w (g.L.Sink.held c.answer.new.link)) made c.in_ok-answer.ensures.writes in
     record {
       progress = rw c.answer.ensures.left
           (Progress-more _ _ _ _ _ _ _ _ _ _ _ _ _ _ _ c.loop-answered.invariant.progress hears
-          replied.0 c.answer.ensures.later c.is_last-last.ensures (rw c.next_head.ensures.held at replied.1) c.if-request.false);
+          enters c.in_ok-entered.ensures.later c.is_last-last.ensures (rw c.next_head.ensures.held at adds) c.if-request.false);
       end = rw c.answer.ensures.left (c.next_head.ensures.end c.loop-answered.invariant.end);
       read_faults_later = search rules;
       write_faults_later = search rules;
       same_references = search rules;
       opening = search rules;
-      later = StartsWith-then _ _ _ c.loop-answered.invariant.later c.answer.ensures.later;
+      later = StartsWith-then _ _ _ c.loop-answered.invariant.later c.in_ok-entered.ensures.later;
       told = search rules;
-      view = λ _. c.answer.ensures.view;
-      one_edition = λ _. c.answer.ensures.one_edition;
+      view = λ _. c.in_ok-entered.ensures.view;
+      one_edition = λ _. c.in_ok-entered.ensures.one_edition;
     }
 
 pub returns-clause-session : goal.returns-clause-session

@@ -1,0 +1,97 @@
+-- A session over a history of one edition.
+use Rattle.std.proofs.Common.{◌≡◌, ◌≢◌, ℕ, zero, suc, ◌-◌, ◌≤◌, ◌⊎◌, List, [], ◌∷◌, ◌++◌, length, take, replicate, Option, Some, None, All, refl, sym, ap, ◌∙◌, subst, inl, inr, ⊎_elim, arith}
+use Rattle.std.specs.Prelude.{IsSome, slice_get}
+use Rattle.std.specs.List.{concat}
+use Rattle.std.proofs.lemmas.Bool.{false≢true}
+use Rattle.std.proofs.lemmas.List.Elements.{All-head, All-tail}
+use Rattle.http_wire.specs.declared.request.Request.{Request}
+use Rattle.http_wire.specs.Requests.{StreamEnd}
+use Rattle.publication.specs.View.{View, Opening, IsOfOneEdition, StartsWith, newcomer}
+use Rattle.session.specs.declared.session_end.SessionEnd.{SessionEnd}
+use Rattle.session.specs.declared.session_end.SessionEnd.TheVariants as ends
+use Rattle.session.specs.Session.{IsAnswered, Session}
+use Rattle.session.specs.Text.{Replier, answerable, edition_at, refusal, replies_from}
+use Rattle.session.proofs.Progress.{Session-unbegun}
+use Rattle.session.proofs.TextLemmas.{replies-grown}
+use Rattle.godoc.specs.Replies.{reply_of}
+use Rattle.godoc.specs.Serving.{Serves}
+
+-- what a session wrote stays the same text when the history is longer than what the session saw
+IsAnswered-grown : {E : Type 0} (reply : Replier E) (history more : List E) (requests : List Request) (end : StreamEnd) (entries written : List ℕ) (result : SessionEnd)
+    → All (λ entry. IsSome (edition_at history entry)) entries → IsAnswered reply history requests end entries written result
+    → IsAnswered reply (history ++ more) requests end entries written result
+IsAnswered-grown reply history more requests end entries written result known a =
+    let same = sym (replies-grown reply history more 1 (answerable requests) entries known) in
+    record {
+      within = a.within;
+      each = a.each;
+      text = λ whole. a.text whole ∙ ap (λ texts. concat texts ++ refusal requests end (length entries)) same;
+      exact = a.exact;
+      begun = λ e. subst (λ (texts : List (List ℕ)). StartsWith (concat texts ++ refusal requests end (length entries)) written) same (a.begun e);
+      whole_replies = λ e. subst (λ (texts : List (List ℕ)). StartsWith written (concat (take (length entries - 1) texts))) same (a.whole_replies e);
+      starved = λ e. ⊎_elim
+          (λ h. inl (h ∙ ap (λ texts. concat (take (length entries) texts)) same))
+          (λ h. inr (h ∙ ap (λ texts. concat (take (length entries - 1) texts)) same))
+          (a.starved e);
+    }
+
+-- the one edition has the number 1
+number_is : {E : Type 0} (edition : E) (entry : ℕ) → IsSome (edition_at (edition ∷ []) entry) → entry ≡ 1
+number_is edition zero known = absurd (false≢true known)
+number_is edition (suc zero) known = refl
+number_is edition (suc (suc place)) known = absurd (false≢true known)
+
+entries_are : {E : Type 0} (edition : E) (entries : List ℕ) → All (λ entry. IsSome (edition_at (edition ∷ []) entry)) entries
+    → entries ≡ replicate (length entries) 1
+entries_are edition [] known = refl
+entries_are edition (entry ∷ entries) known =
+    let P : ℕ → Type 0 = λ n. IsSome (edition_at (edition ∷ []) n) in
+    let first = number_is edition entry (All-head P entry entries known) in
+    let rest = entries_are edition entries (All-tail P entry entries known) in
+    ap (λ n. n ∷ entries) first ∙ ap (λ ns. 1 ∷ ns) rest
+
+no_entry : (E : Type 0) (entry : ℕ) → IsSome (edition_at {E = E} [] entry) → ⊥
+no_entry E zero known = false≢true known
+no_entry E (suc place) known = false≢true known
+
+no_entries : {E : Type 0} (edition : E) (entries : List ℕ) → All (λ entry. IsSome (edition_at {E = E} [] entry)) entries
+    → entries ≡ replicate (length entries) 1
+no_entries edition [] known = refl
+no_entries {E} edition (entry ∷ entries) known =
+    absurd (no_entry E entry (All-head (λ n. IsSome (edition_at {E = E} [] n)) entry entries known))
+
+-- a session of a reader that saw so much of the history
+serves_by : (paths : List (List ℕ)) (left left_after held held_after : Option (List ℕ)) (old new : View (List (List ℕ))) (result : SessionEnd) (more : List (List (List ℕ)))
+    → (s : Session reply_of left left_after held held_after old new result) → new.seen ++ more ≡ paths ∷ [] → s.entries ≡ replicate (length s.entries) 1
+    → Serves paths left left_after held held_after result
+serves_by paths left left_after held held_after old new result more s whole ones = record {
+  read = s.read;
+  written = s.written;
+  count = length s.entries;
+  ended = s.ended;
+  takes = s.takes;
+  adds = s.adds;
+  end_is = s.end_is;
+  answers = λ requests end all.
+      subst (λ (entries : List ℕ). IsAnswered reply_of (paths ∷ []) requests end entries s.written result) ones
+      (subst (λ (history : List (List (List ℕ))). IsAnswered reply_of history requests end s.entries s.written result) whole
+      (IsAnswered-grown reply_of new.seen more requests end s.entries s.written result s.known (s.answers requests end all)));
+}
+
+pub Serves-session : (paths : List (List ℕ)) (left left_after held held_after : Option (List ℕ)) (old new : View (List (List ℕ))) (result : SessionEnd)
+    → Session reply_of left left_after held held_after old new result → new.opening.first ≡ paths → IsOfOneEdition new
+    → Serves paths left left_after held held_after result
+Serves-session paths left left_after held held_after old new result s opening one = ⊎_elim
+    (λ none. serves_by paths left left_after held held_after old new result (paths ∷ []) s (ap (λ l. l ++ paths ∷ []) none)
+    (no_entries paths s.entries (subst (λ (seen : List (List (List ℕ))). All (λ entry. IsSome (edition_at seen entry)) s.entries) none s.known)))
+    (λ some.
+    let seen : new.seen ≡ paths ∷ [] = some ∙ ap (λ p. p ∷ []) opening in
+    serves_by paths left left_after held held_after old new result [] s (ap (λ l. l ++ []) seen)
+    (entries_are paths s.entries (subst (λ (seen : List (List (List ℕ))). All (λ entry. IsSome (edition_at seen entry)) s.entries) seen s.known)))
+    one
+
+-- a session that was not begun for want of memory
+pub Serves-unbegun : (paths : List (List ℕ)) (left held : Option (List ℕ)) → Serves paths left left held held ends.NoMemory
+Serves-unbegun paths left held =
+    let view : View (List (List ℕ)) = newcomer (record { first = paths }) in
+    Serves-session paths left left held held view view ends.NoMemory (Session-unbegun reply_of left held view) refl (inl refl)

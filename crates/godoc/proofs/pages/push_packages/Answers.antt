@@ -1,0 +1,13 @@
+use Rattle.std.proofs.Common.{◌++◌, ◌∙◌, ap, sym, string_bytes}
+use Rattle.std.specs.List.{flat_map}
+use Rattle.std.proofs.lemmas.List.{take_all}
+use Rattle.std.proofs.lemmas.List.Folds.{flat_map-map}
+use Rattle.godoc.specs.Pages.{package_line}
+use Rattle.godoc.proofs.pages.push_packages.Goals as goal
+
+pub returns : goal.returns
+returns c =
+    let all = take_all c.loop-path.path-index c.args.packages.now c.loop-path-test.false in
+    c.loop-path.invariant
+    ∙ ap (λ packages. c.args.text.now ++ flat_map (λ p. package_line (string_bytes p)) packages) all
+    ∙ ap (λ lines. c.args.text.now ++ lines) (sym (flat_map-map package_line string_bytes c.args.packages.now))

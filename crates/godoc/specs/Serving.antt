@@ -1,0 +1,76 @@
+-- What `answer` did. This is the project's own.
+use Rattle.std.specs.Prelude.{◌≡◌, ◌≢◌, ℕ, ◌↔◌, All, Bool, IsTrue, List, [], ◌∷◌, replicate, Option, IfSome, ⊤}
+use Rattle.http_wire.specs.declared.request.Request.{Request}
+use Rattle.http_wire.specs.Requests.{Requests, StreamEnd}
+use Rattle.link_io.specs.Streams.{Takes, Adds}
+use Rattle.session.specs.declared.session_end.SessionEnd.{SessionEnd}
+use Rattle.session.specs.declared.session_end.SessionEnd.TheVariants as ends
+use Rattle.session.specs.Session.{IsAnswered}
+use Rattle.go_ast.specs.Causes.{RoseBy}
+use Rattle.tree_io.specs.Path.{paths_of}
+use Rattle.tree_io.specs.Sources.{Contents, Sources, IsFrom, IsSources, IsScannedFrom, unread_count}
+use Rattle.tree_io.specs.Scans.{under_way}
+use Rattle.godoc.specs.declared.status.Status.{Status}
+use Rattle.godoc.specs.declared.status.Status.TheVariants as statuses
+use Rattle.godoc.specs.Packages.{ArePackages}
+use Rattle.godoc.specs.Replies.{reply_of}
+
+-- the edition with these package paths: they are the packages of sources of the scan under way, scanned while the
+-- count of read faults went from before to now
+pub record IsEdition (scans : Option (List Contents)) (before now : ℕ) (paths : List (List ℕ)) : Type 0 where
+  pub sources : Sources
+  pub valid : IsSources sources
+  pub scanned : IfSome scans (λ told. IsScannedFrom sources (under_way told) before now)
+  pub packages : ArePackages sources paths
+
+-- what reading some paths of the scan under way gave: sources, of which these are the package paths
+pub record IsGathered (scans : Option (List Contents)) (paths : List (List ℕ)) (before now : ℕ) (found : List (List ℕ)) : Type 0 where
+  pub sources : Sources
+  pub same_paths : paths_of sources ≡ paths
+  pub entries : IfSome scans (λ told. All (IsFrom (under_way told)) sources)
+  pub few_unread : RoseBy (unread_count sources) before now
+  pub packages : ArePackages sources found
+
+-- What a session over the history of this one edition did: the bytes left and held, where the two ends tell them,
+-- before it and after it, and how it ended.
+pub record Serves (paths : List (List ℕ)) (left left_after held held_after : Option (List ℕ)) (result : SessionEnd) : Type 0 where
+  -- the bytes read and written, how many requests have an entry, and whether the input ended
+  pub read : List ℕ
+  pub written : List ℕ
+  pub count : ℕ
+  pub ended : Bool
+  pub takes : Takes left read left_after
+  pub adds : Adds held written held_after
+  -- the input ended where nothing is left, unless a read failed
+  pub end_is : IfSome left_after (λ rest. IsTrue ended ↔ ((rest ≡ []) × (result ≢ ends.ReadFault)))
+  -- the stream has one list of requests and one end, and what was written answers them, by the edition with number 1
+  pub answers : (requests : List Request) (end : StreamEnd) → Requests read ended requests end
+      → IsAnswered reply_of (paths ∷ []) requests end (replicate count 1) written result
+
+-- the status that a session's end gives
+abbrev pub status_after : SessionEnd → Status
+status_after ends.Closed = statuses.Done
+status_after ends.Refused = statuses.Done
+status_after ends.Full = statuses.Done
+status_after ends.ReadFault = statuses.ReadFault
+status_after ends.WriteFault = statuses.WriteFault
+status_after ends.NoMemory = statuses.NoMemory
+
+-- what `answer` did where it had an edition: its session, and the status that this gives
+pub record Answers (scans : Option (List Contents)) (before now : ℕ) (left left_after held held_after : Option (List ℕ)) (status : Status) : Type 0 where
+  pub paths : List (List ℕ)
+  pub edition : IsEdition scans before now paths
+  pub end : SessionEnd
+  pub session : Serves paths left left_after held held_after end
+  pub status_is : status ≡ status_after end
+
+-- a status that `answer` has
+abbrev pub IsOfAnswer : Status → Type 0
+IsOfAnswer statuses.Done = ⊤
+IsOfAnswer statuses.Usage = ⊥
+IsOfAnswer statuses.TreeFault = ⊤
+IsOfAnswer statuses.WriteFault = ⊤
+IsOfAnswer statuses.NoMemory = ⊤
+IsOfAnswer (statuses.Limit files bytes) = ⊥
+IsOfAnswer statuses.ReadFault = ⊤
+IsOfAnswer statuses.DoorFault = ⊥

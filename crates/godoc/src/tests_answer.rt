@@ -1,0 +1,247 @@
+use crate::run::run;
+use crate::status::Status;
+use go_ast::{Bytes, Seq, Txt};
+use link_io::{MemSink, MemSource};
+use std::alloc::Global;
+use std::test::Fail;
+use tree_io::MemTree;
+
+/// What a run of `answer` over a tree is given.
+#[derive(Clone, Copy)]
+struct Given<'a> {
+    files: &'a [(&'a str, &'a [u8])],
+    input: &'a [u8],
+    cuts: &'a [u64],
+    failing_calls: &'a [u64],
+    failing_reads: &'a [u64],
+    failing_writes: &'a [u64],
+}
+
+impl<'a> Given<'a> {
+    fn input(input: &'a [u8]) -> Given<'a> {
+        Given {
+            files: &[],
+            input,
+            cuts: &[],
+            failing_calls: &[],
+            failing_reads: &[],
+            failing_writes: &[],
+        }
+    }
+}
+
+/// A tree of one version, whose calls with these numbers fail.
+fn tree_of(alloc: Global, given: Given) -> Result<MemTree, Fail> {
+    let mut version = Seq::new(alloc);
+    for (path, bytes) in given.files {
+        let path = Txt::from_str(alloc, path)?;
+        version.push((path, Bytes::from_slice(alloc, bytes)?))?;
+    }
+    let mut versions = Seq::new(alloc);
+    versions.push(version)?;
+    let failing = Vec::from_slice(alloc, given.failing_calls)?;
+    Ok(MemTree::new(alloc, versions, failing)?)
+}
+
+/// How `answer` ended, and what it wrote, by at most 100 bytes a write.
+fn answer_to(rt: &HostRuntime, given: Given) -> Result<(Status, Vec<u8>), Fail> {
+    let alloc = rt.alloc();
+    let mut words = Vec::new(alloc);
+    words.push(String::from_str(alloc, "answer")?)?;
+    let mut tree = tree_of(alloc, given)?;
+    let mut input = MemSource::new(
+        Vec::from_slice(alloc, given.input)?,
+        Vec::from_slice(alloc, given.cuts)?,
+        Vec::from_slice(alloc, given.failing_reads)?,
+    );
+    let failing = Vec::from_slice(alloc, given.failing_writes)?;
+    let mut out = MemSink::new(alloc, 100, failing);
+    let status = run(rt, alloc, words.as_slice(), &mut tree, &mut input, &mut out);
+    Ok((status, Vec::from_slice(alloc, out.held())?))
+}
+
+/// Several texts as one.
+fn joined(alloc: Global, texts: &[&[u8]]) -> Result<Vec<u8>, Fail> {
+    let mut all = Vec::new(alloc);
+    for text in texts {
+        all.extend_from_slice(text)?;
+    }
+    Ok(all)
+}
+
+const LIST_REQUEST: &[u8] = b"GET /pkg/ HTTP/1.1\r\nHost: a\r\n\r\n";
+
+const EMPTY_LIST_HEAD: &[u8] =
+    b"HTTP/1.1 200 OK\r\nContent-Type: text/html; charset=utf-8\r\nContent-Length: 131\r\nGodoc-Edition: 1\r\n\r\n";
+
+const EMPTY_LIST: &[u8] =
+    b"<!DOCTYPE html>\n<html><head><meta charset=\"utf-8\"><title>Packages</title></head><body>\n<h1>Packages</h1>\n<ul>\n</ul>\n</body></html>\n";
+
+const NOT_FOUND: &[u8] =
+    b"HTTP/1.1 404 Not Found\r\nContent-Type: text/html; charset=utf-8\r\nContent-Length: 122\r\nGodoc-Edition: 1\r\n\r\n<!DOCTYPE html>\n<html><head><meta charset=\"utf-8\"><title>Not found</title></head><body>\n<h1>Not found</h1>\n</body></html>\n";
+
+const NOT_ALLOWED: &[u8] =
+    b"HTTP/1.1 405 Method Not Allowed\r\nContent-Type: text/html; charset=utf-8\r\nContent-Length: 140\r\nGodoc-Edition: 1\r\nAllow: GET, HEAD\r\n\r\n<!DOCTYPE html>\n<html><head><meta charset=\"utf-8\"><title>Method not allowed</title></head><body>\n<h1>Method not allowed</h1>\n</body></html>\n";
+
+const BAD: &[u8] =
+    b"HTTP/1.1 400 Bad Request\r\nContent-Type: text/plain; charset=utf-8\r\nContent-Length: 12\r\nConnection: close\r\n\r\nbad request\n";
+
+#[test]
+fn lists_no_package_of_an_empty_tree(rt: HostRuntime) -> Result<(), Fail> {
+    let (status, written) = answer_to(&rt, Given::input(LIST_REQUEST))?;
+    assert_eq!(rt; status, Status::Done);
+    let wanted = joined(rt.alloc(), &[EMPTY_LIST_HEAD, EMPTY_LIST])?;
+    assert_eq!(rt; written.as_slice(), wanted.as_slice());
+    Ok(())
+}
+
+#[test]
+fn answers_the_same_wherever_the_input_is_cut(rt: HostRuntime) -> Result<(), Fail> {
+    let input =
+        b"GET /nope HTTP/1.1\r\nHost: a\r\n\r\nHEAD /pkg/ HTTP/1.1\r\nHost: a\r\n\r\n".as_slice();
+    let wanted = joined(rt.alloc(), &[NOT_FOUND, EMPTY_LIST_HEAD])?;
+    for cut in 0..=input.len() as u64 {
+        let given = Given {
+            cuts: &[cut],
+            ..Given::input(input)
+        };
+        let (status, written) = answer_to(&rt, given)?;
+        assert_eq!(rt; status, Status::Done, "cut at {cut}");
+        assert_eq!(rt; written.as_slice(), wanted.as_slice(), "cut at {cut}");
+    }
+    Ok(())
+}
+
+#[test]
+fn refuses_what_cannot_be_a_request(rt: HostRuntime) -> Result<(), Fail> {
+    let letters = [b'a'; 8_192];
+    for input in [
+        letters.as_slice(),
+        b"GET / HT".as_slice(),
+        b"GET / HTTP/1.1\r\n\r\n".as_slice(),
+    ] {
+        let (status, written) = answer_to(&rt, Given::input(input))?;
+        assert_eq!(rt; status, Status::Done);
+        assert_eq!(rt; written.as_slice(), BAD);
+    }
+    Ok(())
+}
+
+#[test]
+fn allows_two_methods(rt: HostRuntime) -> Result<(), Fail> {
+    let input = b"POST / HTTP/1.1\r\nHost: a\r\n\r\nPOST /pkg/ HTTP/1.1\r\nHost: a\r\n\r\n";
+    let (status, written) = answer_to(&rt, Given::input(input.as_slice()))?;
+    assert_eq!(rt; status, Status::Done);
+    let wanted = joined(rt.alloc(), &[NOT_ALLOWED, NOT_ALLOWED])?;
+    assert_eq!(rt; written.as_slice(), wanted.as_slice());
+    Ok(())
+}
+
+#[test]
+fn closes_after_a_thousand_replies(rt: HostRuntime) -> Result<(), Fail> {
+    let alloc = rt.alloc();
+    let mut input = Vec::new(alloc);
+    for _ in 0..1_001 {
+        input.extend_from_slice(LIST_REQUEST)?;
+    }
+    let mut wanted = Vec::new(alloc);
+    for _ in 0..999 {
+        wanted.extend_from_slice(EMPTY_LIST_HEAD)?;
+        wanted.extend_from_slice(EMPTY_LIST)?;
+    }
+    let last =
+        b"HTTP/1.1 200 OK\r\nContent-Type: text/html; charset=utf-8\r\nContent-Length: 131\r\nGodoc-Edition: 1\r\nConnection: close\r\n\r\n";
+    wanted.extend_from_slice(last)?;
+    wanted.extend_from_slice(EMPTY_LIST)?;
+    let (status, written) = answer_to(&rt, Given::input(input.as_slice()))?;
+    assert_eq!(rt; status, Status::Done);
+    assert_eq!(rt; written.as_slice(), wanted.as_slice());
+    Ok(())
+}
+
+#[test]
+fn lists_the_folders_that_name_a_package(rt: HostRuntime) -> Result<(), Fail> {
+    let files: [(&str, &[u8]); 11] = [
+        ("z.go", b"// comment\npackage main\nvar x = 1\n"),
+        ("net/http/a.go", b"package http\n"),
+        ("net/http/b.go", b"package http"),
+        ("net/url/u.go", b"package url"),
+        ("net-x/n.go", b"package x"),
+        ("a b&c/é/d.go", b"package d"),
+        ("faulty/f.go", b"package f\nvar x = 0x1"),
+        ("blank/b.go", b"package _"),
+        ("other/o.go", b"import p"),
+        ("short/s.go", b"package"),
+        ("text/t.go", b"\"package\" p"),
+    ];
+    let given = Given {
+        files: &files,
+        ..Given::input(LIST_REQUEST)
+    };
+    let (status, written) = answer_to(&rt, given)?;
+    assert_eq!(rt; status, Status::Done);
+    let page =
+        b"HTTP/1.1 200 OK\r\nContent-Type: text/html; charset=utf-8\r\nContent-Length: 356\r\nGodoc-Edition: 1\r\n\r\n<!DOCTYPE html>\n<html><head><meta charset=\"utf-8\"><title>Packages</title></head><body>\n<h1>Packages</h1>\n<ul>\n<li><a href=\"/pkg/_/\">_</a></li>\n<li><a href=\"/pkg/a%20b%26c/%C3%A9/\">a b&amp;c/\xc3\xa9</a></li>\n<li><a href=\"/pkg/net-x/\">net-x</a></li>\n<li><a href=\"/pkg/net/http/\">net/http</a></li>\n<li><a href=\"/pkg/net/url/\">net/url</a></li>\n</ul>\n</body></html>\n";
+    assert_eq!(rt; written.as_slice(), page.as_slice());
+    Ok(())
+}
+
+#[test]
+fn tells_which_part_failed(rt: HostRuntime) -> Result<(), Fail> {
+    let whole = Given::input(LIST_REQUEST);
+    for (given, wanted, length) in [
+        (
+            Given {
+                failing_calls: &[1],
+                ..whole
+            },
+            Status::TreeFault,
+            0,
+        ),
+        (
+            Given {
+                failing_calls: &[2],
+                ..whole
+            },
+            Status::TreeFault,
+            0,
+        ),
+        (
+            Given {
+                failing_reads: &[1],
+                ..whole
+            },
+            Status::ReadFault,
+            0,
+        ),
+        (
+            Given {
+                failing_reads: &[2],
+                ..whole
+            },
+            Status::ReadFault,
+            229,
+        ),
+        (
+            Given {
+                failing_writes: &[1],
+                ..whole
+            },
+            Status::WriteFault,
+            0,
+        ),
+        (
+            Given {
+                failing_writes: &[2],
+                ..whole
+            },
+            Status::WriteFault,
+            100,
+        ),
+    ] {
+        let (status, written) = answer_to(&rt, given)?;
+        assert_eq!(rt; status, wanted);
+        assert_eq!(rt; written.len(), length);
+    }
+    Ok(())
+}
