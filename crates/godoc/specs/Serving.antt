@@ -9,7 +9,7 @@ use Rattle.session.specs.Session.{IsAnswered}
 use Rattle.go_ast.specs.Causes.{RoseBy}
 use Rattle.tree_io.specs.Path.{paths_of}
 use Rattle.tree_io.specs.Sources.{Contents, Sources, IsFrom, IsSources, IsScannedFrom, unread_count}
-use Rattle.tree_io.specs.Scans.{under_way}
+use Rattle.tree_io.specs.Scans.{OpensScan, under_way}
 use Rattle.godoc.specs.declared.status.Status.{Status}
 use Rattle.godoc.specs.declared.status.Status.TheVariants as statuses
 use Rattle.godoc.specs.Packages.{ArePackages}
@@ -56,10 +56,12 @@ status_after ends.ReadFault = statuses.ReadFault
 status_after ends.WriteFault = statuses.WriteFault
 status_after ends.NoMemory = statuses.NoMemory
 
--- what `answer` did where it had an edition: its session, and the status that this gives
-pub record Answers (scans : Option (List Contents)) (before now : ℕ) (left left_after held held_after : Option (List ℕ)) (status : Status) : Type 0 where
+-- what `answer` did where it had an edition: it opened one scan, from which the edition is, and its session gives
+-- the status
+pub record Answers (scans scans_after : Option (List Contents)) (before now : ℕ) (left left_after held held_after : Option (List ℕ)) (status : Status) : Type 0 where
   pub paths : List (List ℕ)
-  pub edition : IsEdition scans before now paths
+  pub opened : OpensScan scans scans_after
+  pub edition : IsEdition scans_after before now paths
   pub end : SessionEnd
   pub session : Serves paths left left_after held held_after end
   pub status_is : status ≡ status_after end

@@ -63,10 +63,10 @@ pub(crate) fn answer<T: Tree, I: Source, O: Sink>(
 ) -> Status
     ensures statuses { IsOfAnswer result }
     ensures answered { result ≢ Status.TreeFault → result ≢ Status.NoMemory
-        → Answers (T.scans tree.new) (T.read_faults tree.old) (T.read_faults tree.new) (I.left input.old) (I.left input.new) (O.held out.old) (O.held out.new) result }
+        → Answers (T.scans tree.old) (T.scans tree.new) (T.read_faults tree.old) (T.read_faults tree.new) (I.left input.old) (I.left input.new) (O.held out.old) (O.held out.new) result }
     ensures starved { result ≡ Status.NoMemory
         → ((input.new ≡ input.old) × (out.new ≡ out.old))
-        ⊎ Answers (T.scans tree.new) (T.read_faults tree.old) (T.read_faults tree.new) (I.left input.old) (I.left input.new) (O.held out.old) (O.held out.new) result }
+        ⊎ Answers (T.scans tree.old) (T.scans tree.new) (T.read_faults tree.old) (T.read_faults tree.new) (I.left input.old) (I.left input.new) (O.held out.old) (O.held out.new) result }
     ensures tree_fault { result ≡ Status.TreeFault → Rose (T.list_faults tree.old) (T.list_faults tree.new) }
     ensures unread { result ≡ Status.TreeFault → input.new ≡ input.old }
     ensures unwritten { result ≡ Status.TreeFault → out.new ≡ out.old }

@@ -108,7 +108,7 @@ pub(crate) fn find<T: Tree, O: Sink>(
     ensures tree_fault { IsErrOf result Stop.TreeFault → Rose (T.list_faults tree.old) (T.list_faults tree.new) }
     ensures unwritten { IsErrOf result Stop.TreeFault → out.new ≡ out.old }
     ensures write_fault { IsErrOf result Stop.WriteFault → Rose (O.write_faults out.old) (O.write_faults out.new) }
-    ensures one_scan { OnOk result (OpensScan (T.scans tree.old) (T.scans tree.new)) }
+    ensures one_scan { result ≢ Err Stop.TreeFault → OpensScan (T.scans tree.old) (T.scans tree.new) }
     ensures at_most_one_scan { OpensAtMostOne (T.scans tree.old) (T.scans tree.new) }
 {
     if tree.open_scan().is_err() {

@@ -52,6 +52,8 @@ pub fn run<R, T: Tree, I: Source, O: Sink>(
 
     ensures at_most_one_scan { OpensAtMostOne (T.scans tree.old) (T.scans tree.new) }
     ensures one_scan { result ≡ Status.Done → OpensScan (T.scans tree.old) (T.scans tree.new) }
+    ensures find_scans { (name : List ℕ) → command_of (map string_bytes words.now) ≡ Some (find name) → result ≢ Status.TreeFault
+        → OpensScan (T.scans tree.old) (T.scans tree.new) }
 
     // Exactly the text of `find` over the sources of that scan, or a first part of it.
     ensures found { (name : List ℕ) → command_of (map string_bytes words.now) ≡ Some (find name) → result ≡ Status.Done
@@ -63,10 +65,10 @@ pub fn run<R, T: Tree, I: Source, O: Sink>(
     // Exactly the text of the connection, by the one edition that the sources of that scan define, or what a
     // session leaves that fails. Where memory is wanting for the edition nothing is read or written.
     ensures answered { command_of (map string_bytes words.now) ≡ Some answer → result ≢ Status.TreeFault → result ≢ Status.NoMemory
-        → Answers (T.scans tree.new) (T.read_faults tree.old) (T.read_faults tree.new) (I.left input.old) (I.left input.new) (O.held out.old) (O.held out.new) result }
+        → Answers (T.scans tree.old) (T.scans tree.new) (T.read_faults tree.old) (T.read_faults tree.new) (I.left input.old) (I.left input.new) (O.held out.old) (O.held out.new) result }
     ensures starved { command_of (map string_bytes words.now) ≡ Some answer → result ≡ Status.NoMemory
         → ((input.new ≡ input.old) × (out.new ≡ out.old))
-        ⊎ Answers (T.scans tree.new) (T.read_faults tree.old) (T.read_faults tree.new) (I.left input.old) (I.left input.new) (O.held out.old) (O.held out.new) result }
+        ⊎ Answers (T.scans tree.old) (T.scans tree.new) (T.read_faults tree.old) (T.read_faults tree.new) (I.left input.old) (I.left input.new) (O.held out.old) (O.held out.new) result }
 
     // Where no count of faults rose, only want of memory keeps a command from its end.
     ensures complete { (command_of (map string_bytes words.now) ≡ None → ⊥)
