@@ -1,4 +1,3 @@
-pub mod Causes
 pub mod Lexical
 pub mod Position
 pub mod Reading

@@ -1,6 +1,6 @@
 //! Why a source is refused.
 
-use crate::sequence::Txt;
+use plain_data::Txt;
 use std::error::Error;
 use std::fmt;
 

@@ -1,6 +1,6 @@
 //! The tokens and comments of a source, by the places of their bytes.
 
-use crate::sequence::Seq;
+use plain_data::Seq;
 
 /// The bytes from `start` to before `end`, both byte offsets into one source.
 #[derive(Clone, Copy, Debug, PartialEq, Eq)]

@@ -7,7 +7,7 @@ use Rattle.std.proofs.Common.{take-append-drop, drop-cons, add-one, zero, suc}
 use Rattle.std.proofs.lemmas.List.{map-append}
 use Rattle.std.proofs.lemmas.List.Elements.{All-nil, All-cons, All-append, All-head, All-tail}
 use Rattle.std.proofs.lemmas.List.Sums.{sum_by-append, sum_by-cons}
-use Rattle.go_ast.specs.Causes.{RoseBy}
+use Rattle.plain_data.specs.Causes.{RoseBy}
 use Rattle.go_scanner.specs.Answers.{IsRead}
 use Rattle.go_scanner.proofs.OneReading.{not_both, read_or_faulty}
 use Rattle.link_io.specs.Streams.{Adds}

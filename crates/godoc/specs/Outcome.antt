@@ -1,6 +1,6 @@
 -- What a run did to its tree and its output. This is the project's own.
 use Rattle.std.specs.Prelude.{◌≡◌, ℕ, ◌⊎◌, List, [], ◌∷◌, ◌++◌, Option, IfSome, All, ⊤}
-use Rattle.go_ast.specs.Causes.{RoseBy}
+use Rattle.plain_data.specs.Causes.{RoseBy}
 use Rattle.link_io.specs.Streams.{Adds}
 use Rattle.tree_io.specs.declared.tree.Entry.{Entry}
 use Rattle.tree_io.specs.Sources.{Contents, Sources, IsFrom, unread_count, IsSources, IsScannedFrom}

@@ -6,7 +6,7 @@ use Rattle.link_io.specs.Streams.{Takes, Adds}
 use Rattle.session.specs.declared.session_end.SessionEnd.{SessionEnd}
 use Rattle.session.specs.declared.session_end.SessionEnd.TheVariants as ends
 use Rattle.session.specs.Session.{IsAnswered}
-use Rattle.go_ast.specs.Causes.{RoseBy}
+use Rattle.plain_data.specs.Causes.{RoseBy}
 use Rattle.tree_io.specs.Path.{paths_of}
 use Rattle.tree_io.specs.Sources.{Contents, Sources, IsFrom, IsSources, IsScannedFrom, unread_count}
 use Rattle.tree_io.specs.Scans.{OpensScan, under_way}

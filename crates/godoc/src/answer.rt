@@ -1,7 +1,7 @@
 //! The command `answer`: the requests of one connection, answered by one edition.
 
 ghost use Rattle.std.specs.Prelude.{◌≡◌, ◌≢◌, ◌⊎◌, IfOk};
-ghost use Rattle.go_ast.specs.Causes.{Rose};
+ghost use Rattle.plain_data.specs.Causes.{Rose};
 ghost use Rattle.publication.specs.View.{newcomer};
 ghost use Rattle.tree_io.specs.Scans.{OpensScan};
 ghost use Rattle.godoc.specs.Outcome.{OpensAtMostOne};

@@ -2,7 +2,7 @@
 
 ghost use Rattle.std.specs.Prelude.{◌≡◌, ◌↔◌, ◌≤◌, All, IfOk, IfSome, IsSome, IsTrue, OnErr, OnOk, length, map, string_bytes};
 ghost use Rattle.std.specs.Option.{ForSome};
-ghost use Rattle.go_ast.specs.Causes.{HasIoCause};
+ghost use Rattle.plain_data.specs.Causes.{HasIoCause};
 ghost use Rattle.tree_io.specs.Scans.{OpensScan, under_way};
 ghost use Rattle.tree_io.specs.Sources.{bytes_at};
 ghost use Rattle.godoc.specs.Find.{IsSmall, IsWithin};

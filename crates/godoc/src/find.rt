@@ -2,7 +2,7 @@
 
 ghost use Rattle.std.specs.Prelude.{◌≡◌, ◌≢◌, ◌≤◌, ◌∷◌, [], All, Err, IfOk, IfSome, IsErrOf, IsSome, OnErr, OnOk};
 ghost use Rattle.std.specs.Option.{ForSome};
-ghost use Rattle.go_ast.specs.Causes.{Rose, RoseBy};
+ghost use Rattle.plain_data.specs.Causes.{Rose, RoseBy};
 ghost use Rattle.tree_io.specs.Sources.{IsFrom, bytes_at, unread_count};
 ghost use Rattle.tree_io.specs.Scans.{OpensScan, under_way};
 ghost use Rattle.godoc.specs.Find.{IsSmall};

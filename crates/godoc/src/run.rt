@@ -1,7 +1,7 @@
 //! The top call: everything that the program does.
 
 ghost use Rattle.std.specs.Prelude.{◌≡◌, ◌≢◌, ◌⊎◌, ◌↔◌, ℕ, List, Some, None, map, string_bytes};
-ghost use Rattle.go_ast.specs.Causes.{Rose};
+ghost use Rattle.plain_data.specs.Causes.{Rose};
 ghost use Rattle.tree_io.specs.Scans.{OpensScan};
 ghost use Rattle.godoc.specs.Words.{answer, command_of, find};
 ghost use Rattle.godoc.specs.Outcome.{IsOfFind, OpensAtMostOne, WritesFound, WritesFront};

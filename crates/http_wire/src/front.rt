@@ -8,7 +8,7 @@ ghost use Rattle.http_wire.specs.Front.{names_at, request_at, KeepsFieldRules, I
 ghost use Rattle.http_wire.specs.Requests.{StandsHead};
 
 use crate::request::{Request, Verb};
-use go_ast::{Mem, Txt};
+use plain_data::{Mem, Txt};
 use httparse::Status;
 use httparse::spans::{HeaderSpan, RequestSpans, parse_request};
 use std::alloc::Global;

@@ -7,7 +7,7 @@ ghost use Rattle.http_wire.specs.Requests.{HasGiven, Requests, StandsHead, Strea
 
 use crate::front::{Front, HEAD_LIMIT, SPAN_COUNT, read_front};
 use crate::request::Request;
-use go_ast::Mem;
+use plain_data::Mem;
 use httparse::spans::{EMPTY_HEADER_SPAN, HeaderSpan};
 use std::alloc::Global;
 use std::marker::Model;

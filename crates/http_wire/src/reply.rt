@@ -3,7 +3,7 @@
 ghost use Rattle.std.specs.Prelude.{◌≡◌, IfOk};
 ghost use Rattle.http_wire.specs.Reply.{status_of, allow_line, close_line, reply_head_of, bad_reply_bytes};
 
-use go_ast::Mem;
+use plain_data::Mem;
 use std::alloc::Global;
 use text_out::Text;
 

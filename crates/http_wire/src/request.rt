@@ -1,6 +1,6 @@
 //! What the head of a request asks for.
 
-use go_ast::Txt;
+use plain_data::Txt;
 
 /// The method of a request (RFC 9110, section 9), as far as replies depend on it.
 #[derive(Clone, Copy, Debug, PartialEq, Eq)]

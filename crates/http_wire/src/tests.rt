@@ -1,7 +1,7 @@
 ghost use Rattle.std.specs.Prelude.{◌≡◌, false};
 
 use super::*;
-use go_ast::Mem;
+use plain_data::Mem;
 use std::alloc::Global;
 
 /// Writes a word and the target of each head that is whole, and answers what stops them.

@@ -4,7 +4,7 @@ ghost use Rattle.std.specs.Prelude.{◌≡◌, [], ◌∷◌};
 
 use crate::sink::Sink;
 use crate::source::Source;
-use go_ast::Failed;
+use plain_data::Failed;
 
 /// A source and a sink to one peer: a read leaves what a write changes, and the other way round.
 pub trait Link: Source + Sink {

@@ -1,14 +1,14 @@
 //! Sources, sinks and links in memory, which tell all: their bytes, and which of their calls fail.
 
 ghost use Rattle.std.specs.Prelude.{◌≡◌, ℕ, ◌+◌, ◌-◌, ◌<◌, ◌≤◌, ◌↔◌, ◌⊎◌, ◌++◌, [], length, take, drop, min, IfOk, IfSome, OnOk, OnErr, IsTrue, IsErr, MatchResult, None};
-ghost use Rattle.go_ast.specs.Causes.{HasCause};
+ghost use Rattle.plain_data.specs.Causes.{HasCause};
 ghost use Rattle.link_io.specs.Memory.{Fails, Reads, Writes, held_of, left_of, one_more, stop_of};
 ghost use Rattle.link_io.specs.Streams.{Takes, Adds};
 
 use crate::link::Link;
 use crate::sink::Sink;
 use crate::source::Source;
-use go_ast::Failed;
+use plain_data::Failed;
 use std::alloc::Global;
 use std::marker::Model;
 

@@ -2,11 +2,11 @@
 
 ghost use Rattle.std.specs.Prelude.{◌≡◌, ℕ, ◌<◌, ◌≤◌, List, length, take, IfOk, OnOk, OnErr};
 ghost use Rattle.std.specs.declared.option.Option.{Option};
-ghost use Rattle.go_ast.specs.Causes.{HasCause};
+ghost use Rattle.plain_data.specs.Causes.{HasCause};
 ghost use Rattle.link_io.specs.Beside.{Beside};
 ghost use Rattle.link_io.specs.Streams.{Adds, AddsPart};
 
-use go_ast::Failed;
+use plain_data::Failed;
 
 /// Where bytes go, by the bytes that were written.
 pub trait Sink {

@@ -2,11 +2,11 @@
 
 ghost use Rattle.std.specs.Prelude.{◌≡◌, ℕ, ◌<◌, ◌≤◌, ◌↔◌, List, [], length, take, IfOk, OnErr, IfSome};
 ghost use Rattle.std.specs.declared.option.Option.{Option};
-ghost use Rattle.go_ast.specs.Causes.{HasCause};
+ghost use Rattle.plain_data.specs.Causes.{HasCause};
 ghost use Rattle.link_io.specs.Beside.{Beside};
 ghost use Rattle.link_io.specs.Streams.{Takes};
 
-use go_ast::Failed;
+use plain_data::Failed;
 
 /// Where bytes come from, by the bytes that are left to read.
 pub trait Source {

@@ -4,7 +4,7 @@ ghost use Rattle.std.specs.Prelude.{◌≡◌, [], None};
 
 use crate::sink::Sink;
 use crate::source::Source;
-use go_ast::Failed;
+use plain_data::Failed;
 use std::io::{ErrorKind, Read, Write};
 
 /// Standard input, as the runtime reads it.

@@ -1,9 +1,9 @@
 ghost use Rattle.std.specs.Prelude.{◌≡◌, ℕ, ◌≤◌, List, OnOk, OnErr};
-ghost use Rattle.go_ast.specs.Causes.{Rose};
+ghost use Rattle.plain_data.specs.Causes.{Rose};
 ghost use Rattle.link_io.specs.Streams.{Takes, Adds};
 
 use super::*;
-use go_ast::Failed;
+use plain_data::Failed;
 use std::alloc::{AllocError, Allocator, Global};
 use std::fmt::Display;
 use std::io;

@@ -5,7 +5,7 @@ ghost use Rattle.std.specs.Arc.{arc_value};
 ghost use Rattle.publication.specs.View.{EndsWith, newcomer};
 
 use crate::reader::EditionReader;
-use go_ast::Mem;
+use plain_data::Mem;
 use std::alloc::Global;
 use std::marker::Model;
 use std::sync::Arc;

@@ -5,7 +5,7 @@ ghost use Rattle.std.specs.Arc.{arc_value};
 ghost use Rattle.publication.specs.View.{EndsWith, GainsEntry, IsOfOneEdition, IsView, StartsWith, newcomer};
 
 use crate::publisher::FIRST;
-use go_ast::{Mem, NoMemory};
+use plain_data::{Mem, NoMemory};
 use std::marker::Model;
 use std::sync::Arc;
 

@@ -1,13 +1,13 @@
 //! The requests that come in over a link.
 
 ghost use Rattle.std.specs.Prelude.{◌≡◌, ℕ, ◌+◌, ◌<◌, ◌≤◌, ◌⊎◌, List, [], ◌++◌, length, false, IfOk, IfSome, OnOk, OnErr, IsTrue, Ok};
-ghost use Rattle.go_ast.specs.Causes.{HasCause, Rose};
+ghost use Rattle.plain_data.specs.Causes.{HasCause, Rose};
 ghost use Rattle.http_wire.specs.declared.heads.Next.TheVariants as answers;
 ghost use Rattle.link_io.specs.Streams.{Takes};
 ghost use Rattle.session.specs.Incoming.{Hears, KnowsEnd};
 
 use crate::session_end::SessionEnd;
-use go_ast::Failed;
+use plain_data::Failed;
 use http_wire::{Heads, Next};
 use link_io::Link;
 use std::alloc::Global;

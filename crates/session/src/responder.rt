@@ -3,7 +3,7 @@
 ghost use Rattle.std.specs.Prelude.{◌≡◌, ℕ, Bool, List, IfOk};
 ghost use Rattle.http_wire.specs.declared.request.Request.{Request};
 
-use go_ast::Mem;
+use plain_data::Mem;
 use http_wire::Request;
 use std::alloc::Global;
 

@@ -2,7 +2,7 @@
 
 ghost use Rattle.std.specs.Prelude.{◌≡◌, ℕ, ◌≤◌, ◌≢◌, length, Ok};
 ghost use Rattle.std.specs.Arc.{arc_value};
-ghost use Rattle.go_ast.specs.Causes.{Rose};
+ghost use Rattle.plain_data.specs.Causes.{Rose};
 ghost use Rattle.publication.specs.View.{IsOfOneEdition, IsView, StartsWith};
 ghost use Rattle.session.specs.Session.{Session};
 ghost use Rattle.session.specs.Steps.{Refuses, Writes, end_by};

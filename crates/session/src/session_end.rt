@@ -1,6 +1,6 @@
 //! Why a session ended.
 
-use go_ast::NoMemory;
+use plain_data::NoMemory;
 
 /// Why a session ended.
 #[derive(Clone, Copy, Debug, PartialEq, Eq)]

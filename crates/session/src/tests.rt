@@ -1,10 +1,10 @@
 ghost use Rattle.std.specs.Prelude.{◌≡◌, ◌+◌, ◌%◌, ◌<◌, ℕ, [], ◌∷◌, ◌++◌, codes, if◌then◌else◌};
-ghost use Rattle.go_ast.specs.Causes.{Rose};
+ghost use Rattle.plain_data.specs.Causes.{Rose};
 ghost use Rattle.http_wire.specs.declared.request.Verb.TheVariants as verbs;
 ghost use Rattle.session.specs.Session.{Session};
 
 use super::*;
-use go_ast::Mem;
+use plain_data::Mem;
 use http_wire::{Request, Verb};
 use link_io::{Both, Link, MemLink, MemSink, MemSource, Sink, Source};
 use publication::{EditionReader, open_editions};

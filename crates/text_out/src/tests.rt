@@ -1,5 +1,5 @@
 use super::*;
-use go_ast::{Mem, NoMemory};
+use plain_data::{Mem, NoMemory};
 
 #[test]
 fn each_push_appends(rt: HostRuntime) -> Mem<()> {

@@ -4,7 +4,7 @@ ghost use Rattle.std.specs.Prelude.{◌≡◌, [], ◌++◌, decimal, IsUtf8, On
 ghost use Rattle.text_out.specs.Escape.{escaped};
 
 use crate::escape::append_escaped;
-use go_ast::{Mem, NoMemory};
+use plain_data::{Mem, NoMemory};
 use itoa::Buffer;
 use std::alloc::Global;
 use std::marker::Model;

@@ -7,7 +7,7 @@ use Rattle.std.proofs.lemmas.List.Elements.{All-nil, All-push}
 use Rattle.std.proofs.lemmas.List.Sums.{fold_push}
 use Rattle.std.proofs.lemmas.Slice.Eq.{bytes_eq-Decides}
 use Prim.Native.Nat.{zero, suc}
-use Rattle.go_ast.specs.Causes.{Rose, RoseBy}
+use Rattle.plain_data.specs.Causes.{Rose, RoseBy}
 use Rattle.tree_io.specs.Path.{Belongs, IsRising, paths_of}
 use Rattle.tree_io.specs.Sources.{Contents, Sources, IsFrom, IsScannedFrom, IsSources, bytes_at, entry_of, is_unread, unread_count, IsReadable}
 use Rattle.tree_io.specs.Scans.{under_way, IsKnown, IsListed, IsReadAs}

@@ -2,7 +2,7 @@
 use Rattle.std.specs.Prelude.{◌≡◌, ℕ, ◌≤◌, Bool, true, false, List, length, Option, All, IsSomeAnd, ◌⊎◌, count_by, if◌then◌else◌, nat_lt}
 use Rattle.std.specs.Map.{lookup}
 use Rattle.std.specs.Str.{bytes_eq}
-use Rattle.go_ast.specs.Causes.{RoseBy}
+use Rattle.plain_data.specs.Causes.{RoseBy}
 use Rattle.tree_io.specs.Path.{paths_of, HasSourcePaths}
 use Rattle.tree_io.specs.declared.tree.TheConstants.{MAX_FILE_BYTES}
 use Rattle.tree_io.specs.declared.tree.Entry.{Entry}

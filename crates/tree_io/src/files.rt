@@ -11,7 +11,7 @@ ghost use Rattle.tree_io.specs.Scans as scans;
 
 use crate::path::belongs;
 use crate::tree::{Entry, MAX_FILE_BYTES};
-use go_ast::{Bytes, Mem, Seq, Txt};
+use plain_data::{Bytes, Mem, Seq, Txt};
 use std::alloc::Global;
 use std::collections::BTreeMap;
 

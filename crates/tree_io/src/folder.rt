@@ -5,7 +5,7 @@ ghost use Rattle.tree_io.specs.Sources.{IsReadable};
 
 use crate::tree::{Entry, MAX_FILE_BYTES, Tree};
 use crate::walk::list_paths;
-use go_ast::{Bytes, Failed, IoFail, Seq, Txt};
+use plain_data::{Bytes, Failed, IoFail, Seq, Txt};
 use std::alloc::Global;
 use std::fs::Files;
 use std::io::{ErrorKind, Read};
@@ -100,7 +100,7 @@ fn read_file<R: Files>(rt: &R, alloc: Global, root: &str, path: &str) -> Result<
 
 impl<R: Files + AllocGlobal + Clone + Drop> Tree for FsTree<R> {
     ghost use Rattle.std.specs.Prelude.{◌≡◌, None, All, IfOk, IsErrOf, IsOk, OnOk};
-    ghost use Rattle.go_ast.specs.Causes.{HasIoCause};
+    ghost use Rattle.plain_data.specs.Causes.{HasIoCause};
     ghost use Rattle.tree_io.specs.Path.{Belongs, IsRising};
     ghost use Rattle.tree_io.specs.Sources.{IsReadable};
     ghost use Rattle.tree_io.specs.FsTree.{list_failed, read_failed};

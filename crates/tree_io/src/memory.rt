@@ -3,7 +3,7 @@
 use crate::calls::Calls;
 use crate::files::{Files, list_under_way, read_under_way, told_files};
 use crate::tree::{Entry, Tree};
-use go_ast::{Bytes, Failed, IoFail, Mem, Seq, Txt};
+use plain_data::{Bytes, Failed, IoFail, Mem, Seq, Txt};
 use std::alloc::Global;
 use std::marker::Model;
 
@@ -69,7 +69,7 @@ impl MemTree {
 
 impl Tree for MemTree {
     ghost use Rattle.std.specs.Prelude.{◌≡◌, ◌↔◌, Some, All, IfOk, IfSome, IsErr, IsErrOf, IsSome, OnErr, OnOk};
-    ghost use Rattle.go_ast.specs.Causes.{HasCause, HasIoCause};
+    ghost use Rattle.plain_data.specs.Causes.{HasCause, HasIoCause};
     ghost use Rattle.tree_io.specs.Path.{Belongs, IsRising, paths_of};
     ghost use Rattle.tree_io.specs.Sources.{bytes_at, entry_of, IsReadable};
     ghost use Rattle.tree_io.specs.Scans as scans_told;

@@ -3,7 +3,7 @@ ghost use Rattle.tree_io.specs.Sources.{IsScannedFrom, IsSources};
 ghost use Rattle.tree_io.specs.Scans.{under_way};
 
 use super::*;
-use go_ast::{Bytes, IoFail, Mem, Seq, Txt};
+use plain_data::{Bytes, IoFail, Mem, Seq, Txt};
 use std::alloc::Global;
 use std::os::unix::fs::symlink;
 use std::test::Fail;

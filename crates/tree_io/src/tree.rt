@@ -1,6 +1,6 @@
 //! What a tree of Go files answers.
 
-use go_ast::{Bytes, Failed, IoFail, Seq, Txt};
+use plain_data::{Bytes, Failed, IoFail, Seq, Txt};
 use std::alloc::Global;
 
 /// The most bytes of a file that are kept. A longer one is [`Entry::Large`].
@@ -22,7 +22,7 @@ pub enum Entry {
 /// then say exactly what is listed and read. It counts its faults, each count up to the end of a `u64`.
 pub trait Tree {
     ghost use Rattle.std.specs.Prelude.{◌≡◌, ℕ, List, Option, All, IfOk, OnErr, OnOk};
-    ghost use Rattle.go_ast.specs.Causes.{HasCause, HasIoCause};
+    ghost use Rattle.plain_data.specs.Causes.{HasCause, HasIoCause};
     ghost use Rattle.tree_io.specs.Path.{Belongs, IsRising};
     ghost use Rattle.tree_io.specs.Sources.{Contents, IsReadable};
     ghost use Rattle.tree_io.specs.Scans.{IsKnown, IsListed, IsReadAs, OpensScan};

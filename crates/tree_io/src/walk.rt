@@ -5,7 +5,7 @@ ghost use Rattle.tree_io.specs.Path.{Belongs, IsRising};
 
 use crate::folder::{full_path, io_fail};
 use crate::path::{belongs, has_path_bytes, is_source_folder};
-use go_ast::{IoFail, Mem, Seq, Txt};
+use plain_data::{IoFail, Mem, Seq, Txt};
 use std::alloc::Global;
 use std::fs;
 use std::fs::{DirEntry, Files};

@@ -66,7 +66,7 @@ impl Error for IoFail {}
 
 impl From<NoMemory> for IoFail {
     ghost use Rattle.std.specs.Prelude.{◌≡◌};
-    ghost use Rattle.go_ast.specs.declared.errors.IoFail.TheVariants as causes;
+    ghost use Rattle.plain_data.specs.declared.errors.IoFail.TheVariants as causes;
 
     ghost from_gives = { λ _ e. e ≡ causes.NoMemory };
 
@@ -77,7 +77,7 @@ impl From<NoMemory> for IoFail {
 
 impl From<AllocError> for IoFail {
     ghost use Rattle.std.specs.Prelude.{◌≡◌};
-    ghost use Rattle.go_ast.specs.declared.errors.IoFail.TheVariants as causes;
+    ghost use Rattle.plain_data.specs.declared.errors.IoFail.TheVariants as causes;
 
     ghost from_gives = { λ _ e. e ≡ causes.NoMemory };
 
@@ -88,7 +88,7 @@ impl From<AllocError> for IoFail {
 
 impl<T: Drop> From<AllocFailed<T>> for IoFail {
     ghost use Rattle.std.specs.Prelude.{◌≡◌};
-    ghost use Rattle.go_ast.specs.declared.errors.IoFail.TheVariants as causes;
+    ghost use Rattle.plain_data.specs.declared.errors.IoFail.TheVariants as causes;
 
     ghost from_gives = { λ _ e. e ≡ causes.NoMemory };
 

@@ -1,7 +1,7 @@
 -- What a count of faults says of an answer. A count stands still at the end of its type, 2 ^ 64 - 1.
 use Rattle.std.specs.Prelude.{ℕ, ◌+◌, ◌-◌, ◌^◌, ◌≤◌, Result, OnErr, IsErrOf, min}
-use Rattle.go_ast.specs.declared.errors.IoFail.{IoFail}
-use Rattle.go_ast.specs.declared.errors.IoFail.TheVariants as causes
+use Rattle.plain_data.specs.declared.errors.IoFail.{IoFail}
+use Rattle.plain_data.specs.declared.errors.IoFail.TheVariants as causes
 
 -- the count rose by n at least, or stands at its end
 abbrev pub RoseBy : ℕ → ℕ → ℕ → Type 0

@@ -1,0 +1,31 @@
+use crate::{Bytes, Seq, Txt};
+use std::test::Fail;
+
+#[test]
+fn sequences_keep_their_order(rt: HostRuntime) -> Result<(), Fail> {
+    let mut numbers = Seq::new(rt.alloc());
+    assert!(rt; numbers.is_empty());
+    numbers.push(7u32)?;
+    numbers.push(8)?;
+    numbers.push(9)?;
+    assert_eq!(rt; numbers.len(), 3);
+    assert_eq!(rt; numbers.as_slice(), [7, 8, 9].as_slice());
+    assert_eq!(rt; numbers.get(1).copied(), Some(8));
+    assert_eq!(rt; numbers.get(3).copied(), None);
+    assert_eq!(rt; numbers.pop(), Some(9));
+    let again = Seq::from_vec(numbers.into_vec());
+    assert_eq!(rt; again.as_slice(), [7, 8].as_slice());
+    Ok(())
+}
+
+#[test]
+fn texts_and_bytes_are_kept(rt: HostRuntime) -> Result<(), Fail> {
+    let text = Txt::from_str(rt.alloc(), "gö")?;
+    assert_eq!(rt; text.as_str(), "gö");
+    let text = Txt::from_string(text.into_string());
+    assert_eq!(rt; text.as_str(), "gö");
+    let bytes = Bytes::from_slice(rt.alloc(), b"ab")?;
+    let bytes = Bytes::from_vec(bytes.into_vec());
+    assert_eq!(rt; bytes.as_slice(), b"ab".as_slice());
+    Ok(())
+}
