@@ -1,0 +1,11 @@
+//! The letters, digits and names of Go (The Go Programming Language Specification, "Letters and
+//! digits", "Identifiers", "Keywords" and "Exported identifiers").
+#![tactic(auto)]
+
+mod category;
+mod name;
+#[cfg(test)]
+mod tests;
+
+pub use category::{is_digit, is_letter};
+pub use name::{is_exported, is_keyword, is_name};
