@@ -1,0 +1,4 @@
+pub mod Falling
+pub mod Flags
+pub mod Following
+pub mod Trails

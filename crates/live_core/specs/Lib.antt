@@ -1,0 +1,4 @@
+pub mod Events
+pub mod State
+pub mod Steps
+pub mod Trail
