@@ -1,14 +1,15 @@
 //! Sources, sinks and links in memory, which tell all: their bytes, and which of their calls fail.
 
-ghost use Rattle.std.specs.Prelude.{◌≡◌, ℕ, ◌+◌, ◌-◌, ◌<◌, ◌≤◌, ◌↔◌, ◌⊎◌, ◌++◌, [], length, take, drop, min, IfOk, IfSome, OnOk, OnErr, IsTrue, IsErr, MatchResult, None};
+ghost use Rattle.std.specs.Prelude.{◌≡◌, ℕ, ◌+◌, ◌-◌, ◌<◌, ◌≤◌, ◌↔◌, ◌⊎◌, ◌++◌, [], length, take, drop, min, IfOk, IfSome, OnOk, OnErr, IsTrue, IsErr, None};
 ghost use Rattle.plain_data.specs.Causes.{HasCause};
-ghost use Rattle.link_io.specs.Memory.{Fails, Reads, Writes, held_of, left_of, one_more, stop_of};
+ghost use Rattle.plain_data.specs.Counts.{NextFails, called, one_more};
+ghost use Rattle.link_io.specs.Memory.{Reads, Writes, held_of, remaining_of, stop_of};
 ghost use Rattle.link_io.specs.Streams.{Takes, Adds};
 
 use crate::link::Link;
 use crate::sink::Sink;
 use crate::source::Source;
-use plain_data::Failed;
+use plain_data::{Failed, FaultCount, NumberedCalls};
 use std::alloc::Global;
 use std::marker::Model;
 
@@ -18,9 +19,8 @@ pub struct MemSource {
     bytes: Vec<u8>,
     position: usize,
     cuts: Vec<u64>,
-    failing: Vec<u64>,
-    reads: u64,
-    faults: u64,
+    calls: NumberedCalls,
+    faults: FaultCount,
 }
 
 impl Model for MemSource {
@@ -29,7 +29,13 @@ impl Model for MemSource {
 
     ghost Value = { SourceState };
 
-    ghost view = { λ source. record { bytes = source.bytes.items; position = source.position; cuts = source.cuts.items; failing = source.failing.items; calls = source.reads; faults = source.faults } };
+    ghost view = { λ source. record {
+      bytes = source.bytes.items;
+      position = source.position;
+      cuts = source.cuts.items;
+      calls = source.calls;
+      faults = source.faults;
+    } };
 
     ghost invariant = { λ source. source.position ≤ length source.bytes.items };
 }
@@ -38,21 +44,26 @@ impl MemSource {
     /// A source of these bytes. `cuts` are byte offsets from the start that no read passes, and `failing`
     /// the numbers of the reads that fail; either list may stand in any order. It takes no memory.
     pub fn new(bytes: Vec<u8>, cuts: Vec<u64>, failing: Vec<u64>) -> MemSource
-        ensures { result ≡ record { bytes = bytes.items; position = 0; cuts = cuts.items; failing = failing.items; calls = 0; faults = 0 } }
+        ensures { result ≡ record {
+          bytes = bytes.items;
+          position = 0;
+          cuts = cuts.items;
+          calls = record { made = 0; failing = failing.items };
+          faults = 0;
+        } }
     {
         MemSource {
             bytes,
             position: 0,
             cuts,
-            failing,
-            reads: 0,
-            faults: 0,
+            calls: NumberedCalls::new(failing),
+            faults: FaultCount::new(),
         }
     }
 }
 
 impl Source for MemSource {
-    ghost left = { left_of };
+    ghost remaining = { remaining_of };
 
     ghost read_faults = { λ source. source.faults };
 
@@ -67,12 +78,12 @@ impl Source for MemSource {
 
         // What every source says.
         ensures count { IfOk result (λ n. n ≤ length buf.new) }
-        ensures taken { IfOk result (λ n. Takes (left_of self.old) (take n buf.new) (left_of self.new)) }
-        ensures end { IfOk result (λ n. 0 < length buf.new → IfSome (left_of self.old) (λ bytes. (n ≡ 0) ↔ (bytes ≡ []))) }
-        ensures failed { OnErr result (left_of self.new ≡ left_of self.old) }
+        ensures taken { IfOk result (λ n. Takes (remaining_of self.old) (take n buf.new) (remaining_of self.new)) }
+        ensures end { IfOk result (λ n. 0 < length buf.new → IfSome (remaining_of self.old) (λ bytes. (n ≡ 0) ↔ (bytes ≡ []))) }
+        ensures failed { OnErr result (remaining_of self.new ≡ remaining_of self.old) }
         ensures cause { HasCause self.old.faults self.new.faults result }
     {
-        count_call(&mut self.reads, &mut self.faults, &self.failing)?;
+        count_call(&mut self.calls, &mut self.faults)?;
         let count = move_bytes(&self.bytes, self.position, &self.cuts, buf);
         self.position += count;
         Ok(count)
@@ -84,18 +95,22 @@ impl Source for MemSource {
 pub struct MemSink {
     held: Vec<u8>,
     most: usize,
-    failing: Vec<u64>,
-    writes: u64,
-    faults: u64,
+    calls: NumberedCalls,
+    faults: FaultCount,
 }
 
 impl Model for MemSink {
-    ghost use Rattle.std.specs.Prelude.{◌<◌, vec_capacity};
+    ghost use Rattle.std.specs.Prelude.{◌<◌};
     ghost use Rattle.link_io.specs.Memory.{SinkState};
 
     ghost Value = { SinkState };
 
-    ghost view = { λ sink. record { held = sink.held.items; room = vec_capacity sink.held; most = sink.most; failing = sink.failing.items; calls = sink.writes; faults = sink.faults } };
+    ghost view = { λ sink. record {
+      held = sink.held.items;
+      most = sink.most;
+      calls = sink.calls;
+      faults = sink.faults;
+    } };
 
     ghost invariant = { λ sink. 0 < sink.most };
 }
@@ -105,14 +120,18 @@ impl MemSink {
     /// fail, in any order. It takes no memory until it grows.
     pub fn new(alloc: Global, most: usize, failing: Vec<u64>) -> MemSink
         requires { 0 < most }
-        ensures { (room : ℕ) × (result ≡ record { held = []; room = room; most = most; failing = failing.items; calls = 0; faults = 0 }) }
+        ensures { result ≡ record {
+          held = [];
+          most = most;
+          calls = record { made = 0; failing = failing.items };
+          faults = 0;
+        } }
     {
         MemSink {
             held: Vec::new(alloc),
             most,
-            failing,
-            writes: 0,
-            faults: 0,
+            calls: NumberedCalls::new(failing),
+            faults: FaultCount::new(),
         }
     }
 
@@ -146,10 +165,10 @@ impl Sink for MemSink {
         ensures failed { OnErr result (held_of self.new ≡ held_of self.old) }
         ensures cause { HasCause self.old.faults self.new.faults result }
     {
-        count_call(&mut self.writes, &mut self.faults, &self.failing)?;
+        count_call(&mut self.calls, &mut self.faults)?;
         let count = piece.len().min(self.most);
         if self.held.extend_from_slice(&piece[..count]).is_err() {
-            self.faults = self.faults.saturating_add(1);
+            self.faults.add_one();
             return Err(Failed);
         }
         Ok(count)
@@ -188,7 +207,7 @@ impl MemLink {
 }
 
 impl Source for MemLink {
-    ghost left = { λ link. left_of link.source };
+    ghost remaining = { λ link. remaining_of link.source };
 
     ghost read_faults = { λ link. link.source.faults };
 
@@ -203,9 +222,9 @@ impl Source for MemLink {
 
         // What every source says.
         ensures count { IfOk result (λ n. n ≤ length buf.new) }
-        ensures taken { IfOk result (λ n. Takes (left_of self.old.source) (take n buf.new) (left_of self.new.source)) }
-        ensures end { IfOk result (λ n. 0 < length buf.new → IfSome (left_of self.old.source) (λ bytes. (n ≡ 0) ↔ (bytes ≡ []))) }
-        ensures failed { OnErr result (left_of self.new.source ≡ left_of self.old.source) }
+        ensures taken { IfOk result (λ n. Takes (remaining_of self.old.source) (take n buf.new) (remaining_of self.new.source)) }
+        ensures end { IfOk result (λ n. 0 < length buf.new → IfSome (remaining_of self.old.source) (λ bytes. (n ≡ 0) ↔ (bytes ≡ []))) }
+        ensures failed { OnErr result (remaining_of self.new.source ≡ remaining_of self.old.source) }
         ensures cause { HasCause self.old.source.faults self.new.source.faults result }
     {
         self.source.read(buf)
@@ -217,7 +236,7 @@ impl Sink for MemLink {
 
     ghost write_faults = { λ link. link.sink.faults };
 
-    ghost beside = { λ link. record { bytes = left_of link.source; faults = link.source.faults } };
+    ghost beside = { λ link. record { bytes = remaining_of link.source; faults = link.source.faults } };
 
     ghost references = { λ _. [] };
 
@@ -248,14 +267,14 @@ impl Link for MemLink {
 }
 
 // Counts a call, and its failure where its number is one of those that fail.
-fn count_call(calls: &mut u64, faults: &mut u64, failing: &[u64]) -> Result<(), Failed>
-    ensures calls { calls.new ≡ one_more calls.old }
-    ensures fails { IsErr result ↔ Fails failing.now (one_more calls.old) }
-    ensures faults { MatchResult result (λ _. faults.new ≡ faults.old) (λ _. faults.new ≡ one_more faults.old) }
+fn count_call(calls: &mut NumberedCalls, faults: &mut FaultCount) -> Result<(), Failed>
+    ensures calls { calls.new ≡ called calls.old }
+    ensures fails { IsErr result ↔ NextFails calls.old }
+    ensures faults { OnErr result (faults.new ≡ one_more faults.old) }
+    ensures cause { HasCause faults.old faults.new result }
 {
-    *calls = calls.saturating_add(1);
-    if *calls == u64::MAX || failing.contains(calls) {
-        *faults = faults.saturating_add(1);
+    if calls.next_fails() {
+        faults.add_one();
         return Err(Failed);
     }
     Ok(())

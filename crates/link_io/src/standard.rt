@@ -4,14 +4,14 @@ ghost use Rattle.std.specs.Prelude.{◌≡◌, [], None};
 
 use crate::sink::Sink;
 use crate::source::Source;
-use plain_data::Failed;
+use plain_data::{Failed, FaultCount};
 use std::io::{ErrorKind, Read, Write};
 
 /// Standard input, as the runtime reads it.
 #[derive(Drop)]
 pub struct StdSource<R: Input> {
     reader: R::Reader,
-    faults: u64,
+    faults: FaultCount,
 }
 
 impl<R: Input + Drop> StdSource<R> {
@@ -21,13 +21,13 @@ impl<R: Input + Drop> StdSource<R> {
     {
         StdSource {
             reader: rt.reader(),
-            faults: 0,
+            faults: FaultCount::new(),
         }
     }
 }
 
 impl<R: Input> Source for StdSource<R> {
-    ghost left = { λ _. None };
+    ghost remaining = { λ _. None };
 
     ghost read_faults = { λ source. source.faults };
 
@@ -44,7 +44,7 @@ impl<R: Input> Source for StdSource<R> {
                 Err(_) => break,
             }
         }
-        self.faults = self.faults.saturating_add(1);
+        self.faults.add_one();
         Err(Failed)
     }
 }
@@ -53,7 +53,7 @@ impl<R: Input> Source for StdSource<R> {
 #[derive(Drop)]
 pub struct StdSink<R: Print> {
     rt: R,
-    faults: u64,
+    faults: FaultCount,
 }
 
 impl<R: Print> StdSink<R> {
@@ -61,7 +61,10 @@ impl<R: Print> StdSink<R> {
     pub fn new(rt: R) -> StdSink<R>
         ensures { ⟦<StdSink<R> as Sink>⟧.write_faults result ≡ 0 }
     {
-        StdSink { rt, faults: 0 }
+        StdSink {
+            rt,
+            faults: FaultCount::new(),
+        }
     }
 }
 
@@ -85,7 +88,7 @@ impl<R: Print> Sink for StdSink<R> {
                 Err(_) => break,
             }
         }
-        self.faults = self.faults.saturating_add(1);
+        self.faults.add_one();
         Err(Failed)
     }
 }

@@ -19,7 +19,7 @@ enum End {
 
 // What code over any link knows with no second look: a read and a write each change their own side alone.
 fn echo<L: Link>(link: &mut L) -> Result<(), End>
-    ensures moved { OnOk result ((bytes : List ℕ) × Takes (L.left link.old) bytes (L.left link.new) × Adds (L.held link.old) bytes (L.held link.new)) }
+    ensures moved { OnOk result ((bytes : List ℕ) × Takes (L.remaining link.old) bytes (L.remaining link.new) × Adds (L.held link.old) bytes (L.held link.new)) }
     ensures read { result ≡ Err End.ReadFault → Rose (L.read_faults link.old) (L.read_faults link.new) }
     ensures nothing_written { result ≡ Err End.ReadFault → L.held link.new ≡ L.held link.old }
     ensures write { result ≡ Err End.WriteFault → Rose (L.write_faults link.old) (L.write_faults link.new) }
@@ -38,7 +38,7 @@ fn echo<L: Link>(link: &mut L) -> Result<(), End>
 
 // What whoever lent the two parts of a link knows of them afterwards.
 fn echo_between<I: Source, O: Sink>(input: &mut I, out: &mut O) -> Result<(), End>
-    ensures moved { OnOk result ((bytes : List ℕ) × Takes (I.left input.old) bytes (I.left input.new) × Adds (O.held out.old) bytes (O.held out.new)) }
+    ensures moved { OnOk result ((bytes : List ℕ) × Takes (I.remaining input.old) bytes (I.remaining input.new) × Adds (O.held out.old) bytes (O.held out.new)) }
     ensures read { result ≡ Err End.ReadFault → Rose (I.read_faults input.old) (I.read_faults input.new) }
     ensures write { result ≡ Err End.WriteFault → Rose (O.write_faults out.old) (O.write_faults out.new) }
 {

@@ -1,5 +1,6 @@
--- What a count of faults says of an answer. A count stands still at the end of its type, 2 ^ 64 - 1.
-use Rattle.std.specs.Prelude.{ℕ, ◌+◌, ◌-◌, ◌^◌, ◌≤◌, Result, OnErr, IsErrOf, min}
+-- Cited by public contracts. What a count of faults says of an answer. A count stands still at the end of
+-- its type, 2 ^ 64 - 1.
+use Rattle.std.specs.Prelude.{◌≡◌, ℕ, ◌+◌, ◌-◌, ◌^◌, ◌≤◌, Result, OnErr, OnOk, IsErrOf, min}
 use Rattle.plain_data.specs.declared.errors.IoFail.{IoFail}
 use Rattle.plain_data.specs.declared.errors.IoFail.TheVariants as causes
 
@@ -11,12 +12,15 @@ RoseBy n before now = min (before + n) (2 ^ 64 - 1) ≤ now
 abbrev pub Rose : ℕ → ℕ → Type 0
 Rose before now = RoseBy 1 before now
 
--- the count hasn't fallen, and a failure is answered only where it rose
+-- the count hasn't fallen; a failure is answered only where it rose, and success only where it didn't
 pub record HasCause {T E : Type 0} (before now : ℕ) (result : Result T E) : Type 0 where
   pub later : before ≤ now
   pub failed : OnErr result (Rose before now)
+  pub kept : OnOk result (now ≡ before)
 
--- the same of a call that may also run out of memory
+-- the same of a call that may also run out of memory, which is no fault
 pub record HasIoCause {T : Type 0} (before now : ℕ) (result : Result T IoFail) : Type 0 where
   pub later : before ≤ now
   pub failed : IsErrOf result causes.Failed → Rose before now
+  pub kept : OnOk result (now ≡ before)
+  pub no_memory : IsErrOf result causes.NoMemory → now ≡ before

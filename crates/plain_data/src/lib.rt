@@ -5,10 +5,12 @@
 //! and a byte string are their bytes. `specs/Causes.antt` says what a count of faults says of an answer.
 #![tactic(auto)]
 
+mod counts;
 mod errors;
 mod sequence;
 #[cfg(test)]
 mod tests;
 
+pub use counts::{FaultCount, NumberedCalls};
 pub use errors::{Failed, IoFail, Mem, NoMemory};
 pub use sequence::{Bytes, Seq, Txt};

@@ -8,7 +8,7 @@ pub loop-written-preserved : goal.loop-written-preserved
 loop-written-preserved g c = record {
   within = search rules;
   added = Adds-more _ _ _ c.args.piece.now _ _ c.loop-written.invariant.added (rw take_rest at c.in_ok-written.ensures.added);
-  later = search rules;
+  no_fault = search rules;
   alone = search rules;
   same_references = search rules;
 }

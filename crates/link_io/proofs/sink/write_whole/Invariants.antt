@@ -7,7 +7,7 @@ abbrev pub invariant-loop-written : goal.invariant-loop-written
 invariant-loop-written g l = record {
   within : l.written ≤ length l.piece;
   added : Adds (g.O.Sink.held l.initial.out) (take l.written l.piece) (g.O.Sink.held l.out);
-  later : g.O.Sink.write_faults l.initial.out ≤ g.O.Sink.write_faults l.out;
+  no_fault : g.O.Sink.write_faults l.out ≡ g.O.Sink.write_faults l.initial.out;
   alone : g.O.Sink.beside l.out ≡ g.O.Sink.beside l.initial.out;
   same_references : g.O.Sink.references l.out ≡ g.O.Sink.references l.initial.out;
 }
