@@ -29,7 +29,7 @@ fn open_edition(alloc: Global, edition: Edition) -> Mem<EditionReader<Edition>>
 
 /// Serves one connection by one edition, and answers why the session ended.
 fn serve<L: Link>(alloc: Global, edition: Edition, link: &mut L) -> SessionEnd
-    ensures session { Serves edition (L.left link.old) (L.left link.new) (L.held link.old) (L.held link.new) result }
+    ensures session { Serves edition (L.remaining link.old) (L.remaining link.new) (L.held link.old) (L.held link.new) result }
     ensures read_fault { result ≡ SessionEnd.ReadFault → Rose (L.read_faults link.old) (L.read_faults link.new) }
     ensures write_fault { result ≡ SessionEnd.WriteFault → Rose (L.write_faults link.old) (L.write_faults link.new) }
     ensures same_references { L.Source.references link.new ≡ L.Source.references link.old }
@@ -47,7 +47,7 @@ fn serve_between<I: Source, O: Sink>(
     input: &mut I,
     out: &mut O,
 ) -> SessionEnd
-    ensures session { Serves edition (I.left input.old) (I.left input.new) (O.held out.old) (O.held out.new) result }
+    ensures session { Serves edition (I.remaining input.old) (I.remaining input.new) (O.held out.old) (O.held out.new) result }
     ensures read_fault { result ≡ SessionEnd.ReadFault → Rose (I.read_faults input.old) (I.read_faults input.new) }
     ensures write_fault { result ≡ SessionEnd.WriteFault → Rose (O.write_faults out.old) (O.write_faults out.new) }
 {
@@ -63,10 +63,10 @@ pub(crate) fn answer<T: Tree, I: Source, O: Sink>(
 ) -> Status
     ensures statuses { IsOfAnswer result }
     ensures answered { result ≢ Status.TreeFault → result ≢ Status.NoMemory
-        → Answers (T.scans tree.old) (T.scans tree.new) (T.read_faults tree.old) (T.read_faults tree.new) (I.left input.old) (I.left input.new) (O.held out.old) (O.held out.new) result }
+        → Answers (T.scans tree.old) (T.scans tree.new) (T.read_faults tree.old) (T.read_faults tree.new) (I.remaining input.old) (I.remaining input.new) (O.held out.old) (O.held out.new) result }
     ensures starved { result ≡ Status.NoMemory
         → ((input.new ≡ input.old) × (out.new ≡ out.old))
-        ⊎ Answers (T.scans tree.old) (T.scans tree.new) (T.read_faults tree.old) (T.read_faults tree.new) (I.left input.old) (I.left input.new) (O.held out.old) (O.held out.new) result }
+        ⊎ Answers (T.scans tree.old) (T.scans tree.new) (T.read_faults tree.old) (T.read_faults tree.new) (I.remaining input.old) (I.remaining input.new) (O.held out.old) (O.held out.new) result }
     ensures tree_fault { result ≡ Status.TreeFault → Rose (T.list_faults tree.old) (T.list_faults tree.new) }
     ensures unread { result ≡ Status.TreeFault → input.new ≡ input.old }
     ensures unwritten { result ≡ Status.TreeFault → out.new ≡ out.old }

@@ -65,10 +65,10 @@ pub fn run<R, T: Tree, I: Source, O: Sink>(
     // Exactly the text of the connection, by the one edition that the sources of that scan define, or what a
     // session leaves that fails. Where memory is wanting for the edition nothing is read or written.
     ensures answered { command_of (map string_bytes words.now) ≡ Some answer → result ≢ Status.TreeFault → result ≢ Status.NoMemory
-        → Answers (T.scans tree.old) (T.scans tree.new) (T.read_faults tree.old) (T.read_faults tree.new) (I.left input.old) (I.left input.new) (O.held out.old) (O.held out.new) result }
+        → Answers (T.scans tree.old) (T.scans tree.new) (T.read_faults tree.old) (T.read_faults tree.new) (I.remaining input.old) (I.remaining input.new) (O.held out.old) (O.held out.new) result }
     ensures starved { command_of (map string_bytes words.now) ≡ Some answer → result ≡ Status.NoMemory
         → ((input.new ≡ input.old) × (out.new ≡ out.old))
-        ⊎ Answers (T.scans tree.old) (T.scans tree.new) (T.read_faults tree.old) (T.read_faults tree.new) (I.left input.old) (I.left input.new) (O.held out.old) (O.held out.new) result }
+        ⊎ Answers (T.scans tree.old) (T.scans tree.new) (T.read_faults tree.old) (T.read_faults tree.new) (I.remaining input.old) (I.remaining input.new) (O.held out.old) (O.held out.new) result }
 
     // Where no count of faults rose, only want of memory keeps a command from its end.
     ensures complete { (command_of (map string_bytes words.now) ≡ None → ⊥)

@@ -20,12 +20,12 @@ fn read_piece<L: Link>(link: &mut L, heads: &mut Heads) -> Result<(), Failed>
     requires goes_on { heads.old.ended ≡ false }
     requires room { length heads.old.rest < 8192 }
 
-    ensures fed { (bytes : List ℕ) × Takes (L.left link.old) bytes (L.left link.new)
+    ensures fed { (bytes : List ℕ) × Takes (L.remaining link.old) bytes (L.remaining link.new)
         × (heads.new.rest ≡ heads.old.rest ++ bytes) }
     ensures room_left { length heads.new.rest ≤ 16384 }
     ensures progress { OnOk result (IsTrue heads.new.ended ⊎ (length heads.old.rest < length heads.new.rest)) }
-    ensures end { KnowsEnd (L.left link.new) heads.new }
-    ensures failed { OnErr result ((heads.new ≡ heads.old) × (L.left link.new ≡ L.left link.old)) }
+    ensures end { KnowsEnd (L.remaining link.new) heads.new }
+    ensures failed { OnErr result ((heads.new ≡ heads.old) × (L.remaining link.new ≡ L.remaining link.old)) }
     ensures cause { HasCause (L.read_faults link.old) (L.read_faults link.new) result }
 
     // The other side of the link stays.
@@ -49,9 +49,9 @@ pub(crate) fn next_head<L: Link>(
     link: &mut L,
     heads: &mut Heads,
 ) -> Result<Next, SessionEnd>
-    ensures hears { Hears (L.left link.old) (L.left link.new) heads.old heads.new result }
+    ensures hears { Hears (L.remaining link.old) (L.remaining link.new) heads.old heads.new result }
     ensures decided { result ≡ Ok answers.More → ⊥ }
-    ensures end { KnowsEnd (L.left link.old) heads.old → KnowsEnd (L.left link.new) heads.new }
+    ensures end { KnowsEnd (L.remaining link.old) heads.old → KnowsEnd (L.remaining link.new) heads.new }
 
     // Why a read failed, and what stays of the link.
     ensures cause { result ≡ Err SessionEnd.ReadFault → Rose (L.read_faults link.old) (L.read_faults link.new) }

@@ -35,7 +35,7 @@ pub fn serve_link<L: Link, E: Drop, R: Responder<E>>(
     site: &R,
 ) -> SessionEnd
     // What was read and written, which entries were gained, and why the session ended.
-    ensures session { Session (R.reply_of site.now) (L.left link.old) (L.left link.new)
+    ensures session { Session (R.reply_of site.now) (L.remaining link.old) (L.remaining link.new)
         (L.held link.old) (L.held link.new) reader.old reader.new result }
 
     // On every link a fault is answered only where its count rose in this call, or stands at its end.
@@ -74,7 +74,7 @@ fn answer_requests<L: Link, E: Drop, R: Responder<E>>(
     reader: &mut EditionReader<E>,
     site: &R,
 ) -> Result<(), SessionEnd>
-    ensures session { Session (R.reply_of site.now) (L.left link.old) (L.left link.new)
+    ensures session { Session (R.reply_of site.now) (L.remaining link.old) (L.remaining link.new)
         (L.held link.old) (L.held link.new) reader.old reader.new (end_by result) }
     ensures read_fault { end_by result ≡ SessionEnd.ReadFault → Rose (L.read_faults link.old) (L.read_faults link.new) }
     ensures write_fault { end_by result ≡ SessionEnd.WriteFault → Rose (L.write_faults link.old) (L.write_faults link.new) }
@@ -118,7 +118,7 @@ fn answer<L: Link, E, R: Responder<E>>(
         (L.held link.old) (L.held link.new) result }
     ensures write_fault { result ≡ Err SessionEnd.WriteFault → Rose (L.write_faults link.old) (L.write_faults link.new) }
     ensures write_faults_later { L.write_faults link.old ≤ L.write_faults link.new }
-    ensures left { L.left link.new ≡ L.left link.old }
+    ensures left { L.remaining link.new ≡ L.remaining link.old }
     ensures read_faults { L.read_faults link.new ≡ L.read_faults link.old }
     ensures same_references { L.Source.references link.new ≡ L.Source.references link.old }
 {
@@ -134,7 +134,7 @@ fn refuse<L: Link>(alloc: Global, link: &mut L) -> SessionEnd
     ensures refuses { Refuses (L.held link.old) (L.held link.new) result }
     ensures write_fault { result ≡ SessionEnd.WriteFault → Rose (L.write_faults link.old) (L.write_faults link.new) }
     ensures write_faults_later { L.write_faults link.old ≤ L.write_faults link.new }
-    ensures left { L.left link.new ≡ L.left link.old }
+    ensures left { L.remaining link.new ≡ L.remaining link.old }
     ensures read_faults { L.read_faults link.new ≡ L.read_faults link.old }
     ensures same_references { L.Source.references link.new ≡ L.Source.references link.old }
 {

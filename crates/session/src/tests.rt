@@ -57,7 +57,7 @@ fn serve_between<I: Source, O: Sink, E: Drop, R: Responder<E>>(
     reader: &mut EditionReader<E>,
     site: &R,
 ) -> SessionEnd
-    ensures session { Session (R.reply_of site.now) (I.left input.old) (I.left input.new)
+    ensures session { Session (R.reply_of site.now) (I.remaining input.old) (I.remaining input.new)
         (O.held out.old) (O.held out.new) reader.old reader.new result }
     ensures read_fault { result ≡ SessionEnd.ReadFault → Rose (I.read_faults input.old) (I.read_faults input.new) }
     ensures write_fault { result ≡ SessionEnd.WriteFault → Rose (O.write_faults out.old) (O.write_faults out.new) }

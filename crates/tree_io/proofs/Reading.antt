@@ -78,20 +78,22 @@ IsReadSoFar-failed scans paths sources before middle now path so_far rose =
       few_unread = rw count (omega (arith, so_far.few_unread));
     }
 
--- when all listed paths were read
-pub IsScannedFrom-read : (scans : Option (List Contents)) (paths : List (List ℕ)) (sources : Sources) (before now : ℕ)
-    → IsListed scans paths → IsReadSoFar scans paths sources before now → IfSome scans (λ told. IsScannedFrom sources (under_way told) before now)
-IsScannedFrom-read None paths sources before now listed read = tt
-IsScannedFrom-read (Some told) paths sources before now listed read = record {
-  same_paths = read.same_paths ∙ listed;
-  entries = read.entries;
-  few_unread = read.few_unread;
-}
-
 -- what was read of the listed paths is a set of sources
 pub IsSources-read : (scans : Option (List Contents)) (paths : List (List ℕ)) (sources : Sources) (before now : ℕ)
     → All Belongs paths → IsRising paths → IsReadSoFar scans paths sources before now → IsSources sources
 IsSources-read scans paths sources before now belong rising read = record { belong = rw read.same_paths belong; rising = rw read.same_paths rising }
+
+-- when all listed paths were read
+pub IsScannedFrom-read : (scans : Option (List Contents)) (paths : List (List ℕ)) (sources : Sources) (before now : ℕ)
+    → All Belongs paths → IsRising paths → IsListed scans paths → IsReadSoFar scans paths sources before now
+    → IfSome scans (λ told. IsScannedFrom sources (under_way told) before now)
+IsScannedFrom-read None paths sources before now belong rising listed read = tt
+IsScannedFrom-read (Some told) paths sources before now belong rising listed read = record {
+  valid = IsSources-read (Some told) paths sources before now belong rising read;
+  same_paths = read.same_paths ∙ listed;
+  entries = read.entries;
+  few_unread = read.few_unread;
+}
 
 some_either : (b : Bool) (bytes : List ℕ) (rest : Option (List ℕ)) → IsSome rest → IsSome (cond b (Some bytes) rest)
 some_either true bytes rest some = refl

@@ -1,6 +1,6 @@
 -- What contracts see of an `FsTree`. This is the project's own.
 use Rattle.std.specs.Prelude.{ℕ, List}
-use Rattle.tree_io.specs.Count.{one_more}
+use Rattle.plain_data.specs.Counts.{one_more}
 
 -- a tree in a real folder: the folder's path, and the two counts of faults
 pub record State : Type 0 where

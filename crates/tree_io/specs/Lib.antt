@@ -1,4 +1,3 @@
-pub mod Count
 pub mod Path
 pub mod Sources
 pub mod Scans

@@ -49,6 +49,7 @@ IsFrom contents source = (source.1 ≡ Unread) ⊎ IsSomeAnd (bytes_at contents 
 
 -- sources that a scan of the contents gives, during which the count of read faults went from before to now
 pub record IsScannedFrom (sources : Sources) (contents : Contents) (before now : ℕ) : Type 0 where
+  pub valid : IsSources sources
   pub same_paths : paths_of sources ≡ paths_of contents
   pub entries : All (IsFrom contents) sources
   pub few_unread : RoseBy (unread_count sources) before now

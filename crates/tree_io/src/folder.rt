@@ -5,7 +5,7 @@ ghost use Rattle.tree_io.specs.Sources.{IsReadable};
 
 use crate::tree::{Entry, MAX_FILE_BYTES, Tree};
 use crate::walk::list_paths;
-use plain_data::{Bytes, Failed, IoFail, Seq, Txt};
+use plain_data::{Bytes, Failed, FaultCount, IoFail, Seq, Txt};
 use std::alloc::Global;
 use std::fs::Files;
 use std::io::{ErrorKind, Read};
@@ -22,8 +22,8 @@ use std::{fs, io};
 pub struct FsTree<R> {
     rt: R,
     root: String,
-    list_faults: u64,
-    read_faults: u64,
+    list_faults: FaultCount,
+    read_faults: FaultCount,
 }
 
 impl<R> Model for FsTree<R> {
@@ -51,8 +51,8 @@ impl<R> FsTree<R> {
         FsTree {
             rt,
             root,
-            list_faults: 0,
-            read_faults: 0,
+            list_faults: FaultCount::new(),
+            read_faults: FaultCount::new(),
         }
     }
 }
@@ -128,7 +128,7 @@ impl<R: Files + AllocGlobal + Clone + Drop> Tree for FsTree<R> {
     {
         let listed = list_paths(&self.rt, alloc, self.root.as_str());
         if let Err(IoFail::Failed) = listed {
-            self.list_faults = self.list_faults.saturating_add(1);
+            self.list_faults.add_one();
         }
         listed
     }
@@ -142,7 +142,7 @@ impl<R: Files + AllocGlobal + Clone + Drop> Tree for FsTree<R> {
     {
         let entry = read_file(&self.rt, alloc, self.root.as_str(), path);
         if let Err(IoFail::Failed) = entry {
-            self.read_faults = self.read_faults.saturating_add(1);
+            self.read_faults.add_one();
         }
         entry
     }

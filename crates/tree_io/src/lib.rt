@@ -4,7 +4,6 @@
 //! contents of the scans opened so far, where a tree tells them, and of two counts of faults.
 #![tactic(auto)]
 
-mod calls;
 mod files;
 mod folder;
 mod memory;

@@ -1,9 +1,8 @@
 //! A tree in memory.
 
-use crate::calls::Calls;
 use crate::files::{Files, list_under_way, read_under_way, told_files};
 use crate::tree::{Entry, Tree};
-use plain_data::{Bytes, Failed, IoFail, Mem, Seq, Txt};
+use plain_data::{Bytes, Failed, FaultCount, IoFail, Mem, NumberedCalls, Seq, Txt};
 use std::alloc::Global;
 use std::marker::Model;
 
@@ -14,9 +13,9 @@ use std::marker::Model;
 pub struct MemTree {
     versions: Vec<Files>,
     opened: usize,
-    calls: Calls,
-    list_faults: u64,
-    read_faults: u64,
+    calls: NumberedCalls,
+    list_faults: FaultCount,
+    read_faults: FaultCount,
 }
 
 impl Model for MemTree {
@@ -29,8 +28,7 @@ impl Model for MemTree {
     ghost view = { λ tree. record {
       versions = map files_of tree.versions.items;
       scans = scans_of (map files_of tree.versions.items) tree.opened;
-      calls = tree.calls.made;
-      failing = tree.calls.failing.items;
+      calls = tree.calls;
       list_faults = tree.list_faults;
       read_faults = tree.read_faults;
     } };
@@ -48,8 +46,8 @@ impl MemTree {
     pub fn new(alloc: Global, versions: Seq<Seq<(Txt, Bytes)>>, failing: Vec<u64>) -> Mem<MemTree>
         ensures told { IfOk result (λ tree. AllZip IsTold versions tree.versions) }
         ensures no_scan { IfOk result (λ tree. tree.scans ≡ []) }
-        ensures no_call { IfOk result (λ tree. tree.calls ≡ 0) }
-        ensures failing { IfOk result (λ tree. tree.failing ≡ failing.items) }
+        ensures no_call { IfOk result (λ tree. tree.calls
+            ≡ record { made = 0; failing = failing.items }) }
         ensures no_list_fault { IfOk result (λ tree. tree.list_faults ≡ 0) }
         ensures no_read_fault { IfOk result (λ tree. tree.read_faults ≡ 0) }
     {
@@ -60,9 +58,9 @@ impl MemTree {
         Ok(MemTree {
             versions: told,
             opened: 0,
-            calls: Calls { made: 0, failing },
-            list_faults: 0,
-            read_faults: 0,
+            calls: NumberedCalls::new(failing),
+            list_faults: FaultCount::new(),
+            read_faults: FaultCount::new(),
         })
     }
 }
@@ -73,7 +71,8 @@ impl Tree for MemTree {
     ghost use Rattle.tree_io.specs.Path.{Belongs, IsRising, paths_of};
     ghost use Rattle.tree_io.specs.Sources.{bytes_at, entry_of, IsReadable};
     ghost use Rattle.tree_io.specs.Scans as scans_told;
-    ghost use Rattle.tree_io.specs.MemTree.{NextFails, called, opened, list_failed, read_failed};
+    ghost use Rattle.plain_data.specs.Counts.{NextFails};
+    ghost use Rattle.tree_io.specs.MemTree.{after_call, opened, list_failed, read_failed};
 
     ghost scans = { λ tree. Some tree.scans };
 
@@ -82,13 +81,13 @@ impl Tree for MemTree {
     ghost read_faults = { λ tree. tree.read_faults };
 
     fn open_scan(&mut self) -> Result<(), Failed>
-        ensures fails { IsErr result ↔ NextFails self.old }
+        ensures fails { IsErr result ↔ NextFails self.old.calls }
         ensures ok { OnOk result (self.new ≡ opened self.old) }
         ensures err { OnErr result (self.new ≡ list_failed self.old) }
         ensures cause { HasCause self.old.list_faults self.new.list_faults result }
     {
         if self.calls.next_fails() {
-            self.list_faults = self.list_faults.saturating_add(1);
+            self.list_faults.add_one();
             return Err(Failed);
         }
         self.opened += 1;
@@ -96,17 +95,17 @@ impl Tree for MemTree {
     }
 
     fn list(&mut self, alloc: Global) -> Result<Seq<Txt>, IoFail>
-        ensures fails { IsErrOf result IoFail.Failed ↔ NextFails self.old }
-        ensures ok { OnOk result (self.new ≡ called self.old) }
+        ensures fails { IsErrOf result IoFail.Failed ↔ NextFails self.old.calls }
+        ensures ok { OnOk result (self.new ≡ after_call self.old) }
         ensures failed { IsErrOf result IoFail.Failed → self.new ≡ list_failed self.old }
-        ensures no_memory { IsErrOf result IoFail.NoMemory → self.new ≡ called self.old }
+        ensures no_memory { IsErrOf result IoFail.NoMemory → self.new ≡ after_call self.old }
         ensures told { IfOk result (λ paths. paths ≡ paths_of (scans_told.under_way self.old.scans)) }
         ensures belong { IfOk result (All Belongs) }
         ensures rising { IfOk result IsRising }
         ensures cause { HasIoCause self.old.list_faults self.new.list_faults result }
     {
         if self.calls.next_fails() {
-            self.list_faults = self.list_faults.saturating_add(1);
+            self.list_faults.add_one();
             return Err(IoFail::Failed);
         }
         Ok(list_under_way(alloc, &self.versions, self.opened)?)
@@ -114,17 +113,17 @@ impl Tree for MemTree {
 
     fn read(&mut self, alloc: Global, path: &str) -> Result<Entry, IoFail>
         requires { IsSome (bytes_at (scans_told.under_way self.old.scans) path.now) }
-        ensures fails { IsErrOf result IoFail.Failed ↔ NextFails self.old }
-        ensures ok { OnOk result (self.new ≡ called self.old) }
+        ensures fails { IsErrOf result IoFail.Failed ↔ NextFails self.old.calls }
+        ensures ok { OnOk result (self.new ≡ after_call self.old) }
         ensures failed { IsErrOf result IoFail.Failed → self.new ≡ read_failed self.old }
-        ensures no_memory { IsErrOf result IoFail.NoMemory → self.new ≡ called self.old }
+        ensures no_memory { IsErrOf result IoFail.NoMemory → self.new ≡ after_call self.old }
         ensures told { IfOk result (λ entry. IfSome (bytes_at (scans_told.under_way self.old.scans) path.now)
             (λ bytes. entry ≡ entry_of bytes)) }
         ensures readable { IfOk result IsReadable }
         ensures cause { HasIoCause self.old.read_faults self.new.read_faults result }
     {
         if self.calls.next_fails() {
-            self.read_faults = self.read_faults.saturating_add(1);
+            self.read_faults.add_one();
             return Err(IoFail::Failed);
         }
         Ok(read_under_way(alloc, &self.versions, self.opened, path)?)

@@ -6,4 +6,4 @@ use Rattle.tree_io.proofs.memory.MemTreeTree.open_scan.Goals as goal
 pub returns-clause-ok : goal.returns-clause-ok
 returns-clause-ok c =
     let versions = map files_of c.self.inside.versions.items in
-    rw (← c.self.view_is, scans_of-more versions c.self.inside.opened, length-scans_of versions c.self.inside.opened, c.next_fails.ensures.counted, c.next_fails.ensures.same_failing)
+    rw (← c.self.view_is, scans_of-more versions c.self.inside.opened, length-scans_of versions c.self.inside.opened, c.next_fails.ensures.counted)
