@@ -209,6 +209,11 @@ IsEdition-gathered None scans' paths a a' b found e f listed belong rising g = r
 IsEdition-gathered (Some told) scans' paths a a' b found e f listed belong rising g = rw (e, f) (record {
   sources = g.sources;
   valid = record { belong = rw g.same_paths belong; rising = rw g.same_paths rising };
-  scanned = record { same_paths = g.same_paths ∙ listed; entries = g.entries; few_unread = g.few_unread };
+  scanned = record {
+    valid = record { belong = rw g.same_paths belong; rising = rw g.same_paths rising };
+    same_paths = g.same_paths ∙ listed;
+    entries = g.entries;
+    few_unread = g.few_unread;
+  };
   packages = g.packages;
 })

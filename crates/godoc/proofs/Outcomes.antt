@@ -4,6 +4,7 @@ use Rattle.std.specs.Prelude.{◌⊎◌, ⊤, Option, Some, None, IfSome, All, m
 use Rattle.std.specs.Option.{ForSome}
 use Rattle.std.specs.Prelude.{Result, Ok, Err, OnOk, OnErr}
 use Rattle.std.proofs.Common.{take-append-drop, drop-cons, add-one, zero, suc}
+use Rattle.std.specs.List.Sorted.{IsStrictlySortedBy}
 use Rattle.std.proofs.lemmas.List.{map-append}
 use Rattle.std.proofs.lemmas.List.Elements.{All-nil, All-cons, All-append, All-head, All-tail}
 use Rattle.std.proofs.lemmas.List.Sums.{sum_by-append, sum_by-cons}
@@ -14,12 +15,12 @@ use Rattle.link_io.specs.Streams.{Adds}
 use Rattle.tree_io.specs.declared.tree.Entry.{Entry}
 use Rattle.tree_io.specs.declared.tree.Entry.TheVariants.{Bytes, Large, Unread}
 use Rattle.tree_io.specs.declared.tree.TheConstants.{MAX_FILE_BYTES}
-use Rattle.tree_io.specs.Sources.{Contents, Sources, bytes_at, entry_of, IsFrom, unread_count, is_unread}
+use Rattle.tree_io.specs.Sources.{Contents, Sources, bytes_at, entry_of, IsFrom, IsSources, unread_count, is_unread}
 use Rattle.tree_io.specs.Path.{Belongs, IsRising, paths_of}
-use Rattle.tree_io.proofs.Reading.{IsKnown-listed}
+use Rattle.tree_io.proofs.Reading.{HasSourcePaths-opened, IsKnown-listed}
 use Rattle.godoc.specs.declared.status.Stop.{Stop}
 use Rattle.godoc.specs.declared.status.Stop.TheVariants as stops
-use Rattle.tree_io.specs.Scans.{under_way}
+use Rattle.tree_io.specs.Scans.{OpensScan, under_way}
 use Rattle.godoc.specs.Find.{FindsIn, FindsAt, IsFindText, hit_lines}
 use Rattle.godoc.specs.Outcome.{FindsFrom, FindsSome, WritesFound, WritesFront, WritesSome, WritesPart}
 
@@ -231,38 +232,48 @@ OnErr-weaker (Err e) f h = f h
 abbrev pub IsListing : Option (List Contents) → List (List ℕ) → Type 0
 IsListing scans paths = IfSome scans (λ told. paths ≡ paths_of (under_way told))
 
+-- sources of listed paths, which belong and rise
+valid_of : (paths : List (List ℕ)) (sources : Sources) → paths_of sources ≡ paths → All Belongs paths → IsRising paths → IsSources sources
+valid_of paths sources same belong rising = record { belong = rw same belong; rising = rw same rising }
+
 -- over all listed paths, the sources are those of the scan
 pub FindsFrom-listed : (name : List ℕ) (paths : List (List ℕ)) (scans : Option (List Contents)) (a b : ℕ) (text : List ℕ)
-    → IsListing scans paths → FindsSome name paths scans a b text → FindsFrom name scans a b text
-FindsFrom-listed name paths None a b text listed f = record { sources = f.sources; scanned = tt; all = f.all }
-FindsFrom-listed name paths (Some told) a b text listed f = record {
+    → IsListing scans paths → All Belongs paths → IsRising paths → FindsSome name paths scans a b text → FindsFrom name scans a b text
+FindsFrom-listed name paths None a b text listed belong rising f = record { sources = f.sources; scanned = tt; all = f.all }
+FindsFrom-listed name paths (Some told) a b text listed belong rising f = record {
   sources = f.sources;
-  scanned = record { same_paths = f.same_paths ∙ listed; entries = f.entries; few_unread = f.few_unread };
+  scanned = record {
+    valid = valid_of paths f.sources f.same_paths belong rising;
+    same_paths = f.same_paths ∙ listed;
+    entries = f.entries;
+    few_unread = f.few_unread;
+  };
   all = f.all;
 }
 
 sources-listed : (name : List ℕ) (paths : List (List ℕ)) (scans : Option (List Contents)) (a b : ℕ) (text : List ℕ)
-    (listed : IsListing scans paths) (f : FindsSome name paths scans a b text) → (FindsFrom-listed name paths scans a b text listed f).sources ≡ f.sources
+    (listed : IsListing scans paths) (belong : All Belongs paths) (rising : IsRising paths) (f : FindsSome name paths scans a b text)
+    → (FindsFrom-listed name paths scans a b text listed belong rising f).sources ≡ f.sources
 unfolding FindsFrom-listed
-sources-listed name paths None a b text listed f = refl
-sources-listed name paths (Some told) a b text listed f = refl
+sources-listed name paths None a b text listed belong rising f = refl
+sources-listed name paths (Some told) a b text listed belong rising f = refl
 
 pub WritesFound-listed : (name : List ℕ) (paths : List (List ℕ)) (scans : Option (List Contents)) (a b : ℕ) (h h' : Option (List ℕ))
     → IsListing scans paths → All Belongs paths → IsRising paths → WritesSome name paths scans a b h h' → WritesFound name scans a b h h'
 WritesFound-listed name paths scans a b h h' listed belong rising w = record {
   text = w.text;
-  found = FindsFrom-listed name paths scans a b w.text listed w.found;
-  valid = rw (sources-listed name paths scans a b w.text listed w.found)
-      (record { belong = rw w.found.same_paths belong; rising = rw w.found.same_paths rising });
+  found = FindsFrom-listed name paths scans a b w.text listed belong rising w.found;
+  valid = rw (sources-listed name paths scans a b w.text listed belong rising w.found)
+      (valid_of paths w.found.sources w.found.same_paths belong rising);
   written = w.written;
 }
 
 pub WritesFront-listed : (name : List ℕ) (paths : List (List ℕ)) (scans : Option (List Contents)) (a b : ℕ) (h h' : Option (List ℕ))
-    → IsListing scans paths → WritesPart name paths scans a b h h' → WritesFront name scans a b h h'
-WritesFront-listed name paths scans a b h h' listed w = record {
+    → IsListing scans paths → All Belongs paths → IsRising paths → WritesPart name paths scans a b h h' → WritesFront name scans a b h h'
+WritesFront-listed name paths scans a b h h' listed belong rising w = record {
   front = w.front;
   rest = w.rest;
-  found = FindsFrom-listed name paths scans a b (w.front ++ w.rest) listed w.found;
+  found = FindsFrom-listed name paths scans a b (w.front ++ w.rest) listed belong rising w.found;
   written = w.written;
 }
 
@@ -277,14 +288,24 @@ pub listed_are_known : (scans : Option (List Contents)) (paths : List (List ℕ)
 listed_are_known scans paths listed told is k d below =
     IsKnown-listed scans scans paths k (get_or paths k d) refl listed below (same_default paths k d (get_or paths k d) below) told is
 
+no_paths_belong : All Belongs []
+no_paths_belong = All-nil Belongs
+
+no_paths_rise : IsRising []
+unfolding IsStrictlySortedBy
+no_paths_rise = tt
+
 -- nothing written, which is a first part of any text
-pub WritesFront-none : (name : List ℕ) (scans : Option (List Contents)) (a b : ℕ) (h : Option (List ℕ)) → a ≤ b → WritesFront name scans a b h h
-WritesFront-none name None a b h later =
+pub WritesFront-none : (name : List ℕ) (before scans : Option (List Contents)) (a b : ℕ) (h : Option (List ℕ))
+    → OpensScan before scans → a ≤ b → WritesFront name scans a b h h
+WritesFront-none name before None a b h opens later =
     let r = remains name [] None a b later (λ told is. All-nil (λ p. IsSome (bytes_at (under_way told) p))) in
-    WritesFront-listed name [] None a b h h tt (record { front = []; rest = r.text; found = r.found; written = Adds-nil h })
-WritesFront-none name (Some told) a b h later =
+    WritesFront-listed name [] None a b h h tt no_paths_belong no_paths_rise (record { front = []; rest = r.text; found = r.found; written = Adds-nil h })
+WritesFront-none name before (Some told) a b h opens later =
     let r = remains name (paths_of (under_way told)) (Some told) a b later (listed_are_known (Some told) (paths_of (under_way told)) refl) in
-    WritesFront-listed name (paths_of (under_way told)) (Some told) a b h h refl (record { front = []; rest = r.text; found = r.found; written = Adds-nil h })
+    let valid = HasSourcePaths-opened before told opens in
+    WritesFront-listed name (paths_of (under_way told)) (Some told) a b h h refl valid.belong valid.rising
+    (record { front = []; rest = r.text; found = r.found; written = Adds-nil h })
 
 -- the same after a call that left the scans, where the count before is that of an earlier moment
 pub WritesFound-after : (name : List ℕ) (paths : List (List ℕ)) (scans scans' : Option (List Contents)) (a a' b : ℕ) (h h' : Option (List ℕ))
@@ -292,5 +313,5 @@ pub WritesFound-after : (name : List ℕ) (paths : List (List ℕ)) (scans scans
 WritesFound-after name paths scans scans' a a' b h h' e f listed belong rising w = rw (e, f) (WritesFound-listed name paths scans a b h h' listed belong rising w)
 
 pub WritesFront-after : (name : List ℕ) (paths : List (List ℕ)) (scans scans' : Option (List Contents)) (a a' b : ℕ) (h h' : Option (List ℕ))
-    → scans' ≡ scans → a' ≡ a → IsListing scans paths → WritesPart name paths scans a b h h' → WritesFront name scans' a' b h h'
-WritesFront-after name paths scans scans' a a' b h h' e f listed w = rw (e, f) (WritesFront-listed name paths scans a b h h' listed w)
+    → scans' ≡ scans → a' ≡ a → IsListing scans paths → All Belongs paths → IsRising paths → WritesPart name paths scans a b h h' → WritesFront name scans' a' b h h'
+WritesFront-after name paths scans scans' a a' b h h' e f listed belong rising w = rw (e, f) (WritesFront-listed name paths scans a b h h' listed belong rising w)

@@ -12,7 +12,13 @@ RoseBy n before now = min (before + n) (2 ^ 64 - 1) ≤ now
 abbrev pub Rose : ℕ → ℕ → Type 0
 Rose before now = RoseBy 1 before now
 
--- the count hasn't fallen; a failure is answered only where it rose, and success only where it didn't
+-- the count hasn't fallen; it rose where the call failed so, and else it is as it was
+pub record IsCaused (before now : ℕ) (failed : Type 0) : Type 0 where
+  pub later : before ≤ now
+  pub rose : failed → Rose before now
+  pub kept : ¬ failed → now ≡ before
+
+-- the same of a call whose every failure is counted
 pub record HasCause {T E : Type 0} (before now : ℕ) (result : Result T E) : Type 0 where
   pub later : before ≤ now
   pub failed : OnErr result (Rose before now)

@@ -27,6 +27,13 @@ impl FaultCount {
         FaultCount { faults: 0 }
     }
 
+    /// The number of faults.
+    pub fn get(&self) -> u64
+        ensures { result ≡ self.now }
+    {
+        self.faults
+    }
+
     /// Counts one fault more.
     pub fn add_one(&mut self)
         ensures more { self.new ≡ one_more self.old }

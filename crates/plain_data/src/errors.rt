@@ -2,7 +2,8 @@
 
 use std::alloc::{AllocError, AllocFailed};
 use std::error::Error;
-use std::fmt;
+use std::io::ErrorKind;
+use std::{fmt, io};
 
 /// An allocation was refused. It is the one answer that no contract ties to a cause.
 #[derive(Clone, Copy, Debug, PartialEq, Eq)]
@@ -72,6 +73,23 @@ impl From<NoMemory> for IoFail {
 
     fn from(_: NoMemory) -> IoFail {
         IoFail::NoMemory
+    }
+}
+
+impl From<io::Error> for IoFail {
+    ghost use Rattle.std.specs.Prelude.{◌≡◌, ◌↔◌};
+    ghost use Rattle.std.specs.IoError.{error_kind};
+    ghost use Rattle.std.specs.declared.io.ErrorKind.TheVariants.{OutOfMemory};
+    ghost use Rattle.plain_data.specs.declared.errors.IoFail.TheVariants as causes;
+
+    ghost from_gives = { λ error fail. (fail ≡ causes.NoMemory) ↔ (error_kind error ≡ OutOfMemory) };
+
+    /// `NoMemory` exactly where the system says that memory was wanting.
+    fn from(error: io::Error) -> IoFail {
+        match error.kind() {
+            ErrorKind::OutOfMemory => IoFail::NoMemory,
+            _ => IoFail::Failed,
+        }
     }
 }
 

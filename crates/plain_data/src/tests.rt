@@ -1,4 +1,6 @@
-use crate::{Bytes, Seq, Txt};
+use crate::{Bytes, FaultCount, IoFail, NumberedCalls, Seq, Txt};
+use std::io;
+use std::io::ErrorKind;
 use std::test::Fail;
 
 #[test]
@@ -28,4 +30,30 @@ fn texts_and_bytes_are_kept(rt: HostRuntime) -> Result<(), Fail> {
     let bytes = Bytes::from_vec(bytes.into_vec());
     assert_eq!(rt; bytes.as_slice(), b"ab".as_slice());
     Ok(())
+}
+
+#[test]
+fn calls_fail_by_their_numbers(rt: HostRuntime) -> Result<(), Fail> {
+    let mut calls = NumberedCalls::new([4, 2].to_vec(rt.alloc())?);
+    let mut faults = FaultCount::new();
+    for fails in [false, true, false, true, false] {
+        assert_eq!(rt; calls.next_fails(), fails);
+        if fails {
+            faults.add_one();
+        }
+    }
+    assert_eq!(rt; faults.get(), 2);
+    Ok(())
+}
+
+#[test]
+fn an_error_of_the_system_is_a_failure_or_want_of_memory(rt: HostRuntime) {
+    for (kind, fail) in [
+        (ErrorKind::OutOfMemory, IoFail::NoMemory),
+        (ErrorKind::NotFound, IoFail::Failed),
+        (ErrorKind::Interrupted, IoFail::Failed),
+        (ErrorKind::InvalidFilename, IoFail::Failed),
+    ] {
+        assert_eq!(rt; IoFail::from(io::Error::from(kind)), fail);
+    }
 }

@@ -130,6 +130,10 @@ contents_at contents i all = elim (cases_lt i (length contents)) [
   | inr past ↦ rw (get_or_past contents i [] past) no_paths
 ]
 
+-- each version of a tree has the paths of sources
+pub HasSourcePaths-version_at : (versions : List Contents) (n : ℕ) → All HasSourcePaths versions → HasSourcePaths (version_at versions n)
+HasSourcePaths-version_at versions n all = contents_at versions _ all
+
 -- the contents of the scan under way are those of a version, or none
 pub HasSourcePaths-under_way : (versions : List Contents) (n : ℕ) → All HasSourcePaths versions → HasSourcePaths (under_way (scans_of versions n))
 HasSourcePaths-under_way versions zero all = no_paths

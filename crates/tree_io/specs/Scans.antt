@@ -1,7 +1,7 @@
 -- The scans that a tree tells, each as the contents that it found. This is the project's own.
 use Rattle.std.specs.Prelude.{◌≡◌, ℕ, ◌-◌, List, [], ◌∷◌, ◌++◌, length, Option, Some, None, IfSome, IsSome, slice_index_or}
 use Rattle.std.specs.Option.{ForSome}
-use Rattle.tree_io.specs.Path.{paths_of}
+use Rattle.tree_io.specs.Path.{HasSourcePaths, paths_of}
 use Rattle.tree_io.specs.Sources.{Contents, bytes_at, entry_of}
 use Rattle.tree_io.specs.declared.tree.Entry.{Entry}
 
@@ -9,12 +9,13 @@ use Rattle.tree_io.specs.declared.tree.Entry.{Entry}
 abbrev pub under_way : List Contents → Contents
 under_way scans = slice_index_or scans (length scans - 1) []
 
--- where scans are told there is one more, and else there are still none
+-- where scans are told there is one more, a set of files whose paths belong; else there are still none
 abbrev pub OpensScan : Option (List Contents) → Option (List Contents) → Type 0
 OpensScan None None = Unit {0}
 OpensScan None (Some now) = ⊥
 OpensScan (Some before) None = ⊥
-OpensScan (Some before) (Some now) = (contents : Contents) × (now ≡ before ++ contents ∷ [])
+OpensScan (Some before) (Some now) =
+    (contents : Contents) × HasSourcePaths contents × (now ≡ before ++ contents ∷ [])
 
 -- where scans are told, these are the paths of the one under way
 abbrev pub IsListed : Option (List Contents) → List (List ℕ) → Type 0

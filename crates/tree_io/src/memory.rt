@@ -84,6 +84,8 @@ impl Tree for MemTree {
         ensures fails { IsErr result ↔ NextFails self.old.calls }
         ensures ok { OnOk result (self.new ≡ opened self.old) }
         ensures err { OnErr result (self.new ≡ list_failed self.old) }
+        ensures opens { OnOk result
+            (scans_told.OpensScan (Some self.old.scans) (Some self.new.scans)) }
         ensures cause { HasCause self.old.list_faults self.new.list_faults result }
     {
         if self.calls.next_fails() {
