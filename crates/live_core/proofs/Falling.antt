@@ -1,11 +1,10 @@
 -- The editions that are served to one connection never fall.
-use Rattle.std.proofs.Common.{◌≡◌, ℕ, zero, suc, ◌+◌, ◌<◌, ◌≤◌, Bool, true, false, cond, eqb, Option, None, Some, List, [], ◌∷◌, ◌++◌, length, get_or, refl, sym, ap, ◌∙◌, subst, arith, length-append}
-use Rattle.std.specs.List.{filter_map, cons_option, zip}
+use Rattle.std.proofs.Common.{ℕ, zero, suc, ◌<◌, ◌≤◌, Bool, true, false, cond, eqb, None, Some, List, [], ◌∷◌, length, get_or, arith, length-append}
+use Rattle.std.specs.List.{cons_option}
 use Rattle.std.specs.List.Sorted.{IsNonDecreasing}
 use Rattle.live_core.specs.declared.event.Event.{Event}
 use Rattle.live_core.specs.declared.event.Event.TheVariants.{Scan, Piece, Publish, Enter}
-use Rattle.live_core.specs.declared.event.Answer.{Answer}
-use Rattle.live_core.specs.Events.{under_way, published, sources_of, answer_of, answers_from, is_legal, past_after, edition_to, editions_to}
+use Rattle.live_core.specs.Events.{under_way, published, sources_of, answer_of, answers_from, is_legal, editions_to}
 
 -- the first is at least this, and each other at least the one before it
 abbrev pub Climbs : ℕ → List ℕ → Type 0

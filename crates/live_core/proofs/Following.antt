@@ -3,14 +3,14 @@ use Rattle.std.proofs.Common.{inl, inr, ◌≡◌, ℕ, zero, suc, ◌+◌, ◌<
 use Rattle.std.proofs.Math.ListN.{set}
 use Rattle.std.proofs.lemmas.Bool.{false≢true}
 use Rattle.std.proofs.lemmas.Bool.Decides.{nat_tests}
-use Rattle.std.proofs.lemmas.Option.{slice_get-get_or, slice_get_within}
+use Rattle.std.proofs.lemmas.Option.{slice_get_within}
 use Rattle.live_core.specs.declared.event.Event.{Event}
 use Rattle.live_core.specs.declared.event.Event.TheVariants as events
 use Rattle.live_core.specs.declared.event.Answer.{Answer}
 use Rattle.live_core.specs.declared.event.Answer.TheVariants.{Done, Published, Served, Illegal}
 use Rattle.live_core.specs.declared.event.NotLegal.{NotLegal}
 use Rattle.live_core.specs.declared.event.NotLegal.TheVariants.{ScanUnderWay, NoScan, UnknownPiece, PieceTwice, Unfinished}
-use Rattle.live_core.specs.Events.{Scan, under_way, finished, published, sources_of, last_of, is_among, are_all_among, piece_answer, publish_answer, answer_of, is_legal, past_after}
+use Rattle.live_core.specs.Events.{Scan, under_way, finished, published, sources_of, last_of, is_among, piece_answer, publish_answer, answer_of, is_legal, past_after}
 use Rattle.live_core.specs.State.{DraftState, CoreState, IsDraftOf, AreDraftOf, IsAfter}
 use Rattle.live_core.specs.Steps.{missing_of, Follows}
 use Rattle.live_core.proofs.Flags.{whole_draft, unfinished_draft, new_draft, finished_more}

@@ -1,15 +1,15 @@
 -- A trail is legal, and serves its entries.
-use Rattle.std.proofs.Common.{◌≡◌, ℕ, zero, suc, ◌+◌, ◌-◌, ◌<◌, ◌≤◌, ◌⊎◌, Bool, true, false, cond, ◌&&◌, ◌||◌, eqb, ltb, Option, None, Some, List, [], ◌∷◌, ◌++◌, length, get_or, map, max, refl, sym, ap, ◌∙◌, subst, arith, inl, inr, is_some, length-append, append_assoc, append-nil, add-zero, zero-add}
+use Rattle.std.proofs.Common.{◌≡◌, ℕ, zero, suc, ◌+◌, ◌-◌, ◌<◌, ◌≤◌, ◌⊎◌, Bool, true, false, cond, ◌&&◌, ◌||◌, eqb, ltb, Option, None, Some, List, [], ◌∷◌, ◌++◌, length, get_or, map, max, refl, sym, ap, ◌∙◌, subst, arith, inl, inr, is_some, append_assoc, append-nil, add-zero, zero-add}
 use Rattle.std.specs.List.{filter, list_all, flat_map}
 use Rattle.std.proofs.lemmas.Bool.Decides.{nat_tests}
 use Rattle.live_core.specs.declared.event.Event.{Event}
 use Rattle.live_core.specs.declared.event.Event.TheVariants as events
 use Rattle.live_core.specs.declared.event.Answer.{Answer}
 use Rattle.live_core.specs.declared.event.Answer.TheVariants.{Done, Published, Served, Illegal}
-use Rattle.live_core.specs.declared.event.NotLegal.TheVariants.{ScanUnderWay, NoScan, UnknownPiece, PieceTwice, Unfinished}
-use Rattle.live_core.specs.Events.{Scan, under_way, finished, published, sources_of, last_of, is_among, are_all_among, piece_answer, publish_answer, answer_of, answers_from, core_answers, is_legal, is_served, past_after}
-use Rattle.live_core.specs.Trail.{numbers_from, edition_events, editions_between, trail_from, trail_of, AreEntries, served_from}
-use Rattle.live_core.proofs.Falling.{Climbs, climbs-weaken, never_falls-climbs}
+use Rattle.live_core.specs.declared.event.NotLegal.TheVariants.{ScanUnderWay, UnknownPiece, PieceTwice, Unfinished}
+use Rattle.live_core.specs.Events.{Scan, under_way, finished, published, sources_of, last_of, is_among, piece_answer, publish_answer, answer_of, answers_from, core_answers, is_legal, is_served, past_after}
+use Rattle.live_core.specs.Trail.{numbers_from, edition_events, trail_from, trail_of, AreEntries, served_from}
+use Rattle.live_core.proofs.Falling.{Climbs, never_falls-climbs}
 use Rattle.live_core.proofs.Flags.{each-all_among}
 use Rattle.live_core.proofs.Following.{past-legal}
 

@@ -1,7 +1,7 @@
 -- The core machine, over lists of events. The project's own. Public clauses cite these definitions.
 --
 -- The past of an event is the list of the legal events before it, the latest first.
-use Rattle.std.specs.Prelude.{◌≡◌, ℕ, zero, suc, ◌+◌, Bool, true, false, ◌&&◌, Option, None, Some, List, [], ◌∷◌, ◌++◌, length, is_some, nat_lt, ◌==◌, if◌then◌else◌}
+use Rattle.std.specs.Prelude.{ℕ, zero, suc, ◌+◌, Bool, true, false, ◌&&◌, Option, None, Some, List, [], ◌∷◌, ◌++◌, length, is_some, nat_lt, ◌==◌, if◌then◌else◌}
 use Rattle.std.specs.List.{list_any, filter_map, zip}
 use Rattle.live_core.specs.declared.event.Event.{Event}
 use Rattle.live_core.specs.declared.event.Event.TheVariants as events

@@ -1,6 +1,6 @@
 -- The trail of a reader's entries: a run of the core in which each edition is made whole before it is
 -- published. The project's own. Public clauses cite these definitions.
-use Rattle.std.specs.Prelude.{◌≡◌, ℕ, zero, suc, ◌+◌, ◌-◌, ◌≤◌, List, [], ◌∷◌, ◌++◌, length, map, max, slice_index, All}
+use Rattle.std.specs.Prelude.{ℕ, zero, suc, ◌-◌, ◌≤◌, List, [], ◌∷◌, ◌++◌, length, map, max, slice_index, All}
 use Rattle.std.specs.List.{flat_map}
 use Rattle.std.specs.List.Sorted.{IsNonDecreasing}
 use Rattle.live_core.specs.declared.event.Event.{Event}

@@ -86,20 +86,40 @@ fn each_illegal_event_has_its_cause_and_changes_nothing(rt: HostRuntime) -> Resu
 
 #[test]
 fn a_scan_knows_no_piece_of_the_one_before(rt: HostRuntime) -> Result<(), Fail> {
-    let mut core = Core::start(rt.alloc(), 1)?;
-    for (event, answer) in [
-        (scan(2, 1), Answer::Done),
-        (piece(0, 0), Answer::Done),
-        (Event::Publish, Answer::Published(2)),
-        (scan(3, 1), Answer::Done),
-        (Event::Publish, Answer::Illegal(NotLegal::Unfinished)),
-        (piece(0, 0), Answer::Done),
-        (Event::Publish, Answer::Published(3)),
-        (scan(4, 0), Answer::Done),
-        (Event::Publish, Answer::Published(4)),
-        (enter(0, 1), served(4, 4, 1)),
-    ] {
-        assert_eq!(rt; core.step(&event)?, answer);
-    }
+    let events = [
+        scan(2, 1),
+        piece(0, 0),
+        Event::Publish,
+        scan(3, 1),
+        Event::Publish,
+        piece(0, 0),
+        Event::Publish,
+        scan(4, 0),
+        Event::Publish,
+        enter(0, 1),
+    ];
+    let answers = [
+        Answer::Done,
+        Answer::Done,
+        Answer::Published(2),
+        Answer::Done,
+        Answer::Illegal(NotLegal::Unfinished),
+        Answer::Done,
+        Answer::Published(3),
+        Answer::Done,
+        Answer::Published(4),
+        served(4, 4, 1),
+    ];
+    let found = run_events(rt.alloc(), 1, &events)?;
+    assert_eq!(rt; found.as_slice(), answers.as_slice());
+    Ok(())
+}
+
+#[test]
+fn a_core_is_stepped_by_hand(rt: HostRuntime) -> Result<(), Fail> {
+    let mut core = Core::start(rt.alloc(), 7)?;
+    assert_eq!(rt; core.step(&enter(1, 5))?, served(1, 7, 5));
+    assert_eq!(rt; core.step(&scan(8, 0))?, Answer::Done);
+    assert_eq!(rt; core.step(&Event::Publish)?, Answer::Published(2));
     Ok(())
 }

@@ -1,4 +1,3 @@
-use Rattle.std.proofs.Common.{◌≡◌, ap}
 use Rattle.std.proofs.lemmas.List.Sums.{AllPass-from_list_all}
 use Rattle.live_core.specs.Events.{core_answers, is_legal}
 use Rattle.live_core.specs.Trail.{trail_of}

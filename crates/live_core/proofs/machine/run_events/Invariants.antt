@@ -1,4 +1,4 @@
-use Rattle.std.proofs.Common.{◌≡◌, ℕ, ◌+◌, ◌≤◌, List, ◌++◌, drop}
+use Rattle.std.proofs.Common.{◌≡◌, ◌+◌, ◌≤◌, List, ◌++◌, drop}
 use Rattle.live_core.specs.declared.event.Event.{Event}
 use Rattle.live_core.specs.Events.{answers_from, core_answers}
 use Rattle.live_core.specs.State.{IsAfter}

@@ -1,7 +1,4 @@
 -- By whether a scan is under way, and what the draft answered.
-use Rattle.std.proofs.Common.{◌≡◌, ℕ, Some, Ok, Err, refl, sym, ap, ◌∙◌, subst}
-use Rattle.live_core.specs.declared.event.Answer.TheVariants.{Illegal}
-use Rattle.live_core.specs.State.{CoreState, DraftState}
 use Rattle.live_core.proofs.Flags.{finishes-ok, finishes-err}
 use Rattle.live_core.proofs.Following.{piece-no_scan, piece-refused, piece-finished}
 use Rattle.live_core.proofs.machine.Core.finish.Goals as goal

@@ -1,10 +1,6 @@
 -- By whether the draft is whole.
-use Rattle.std.proofs.Common.{rules, ◌≡◌, ℕ, ◌+◌, None, refl, sym, ap, ◌∙◌, subst}
+use Rattle.std.proofs.Common.{rules, sym, ◌∙◌}
 use Rattle.std.proofs.lemmas.Bool.{false≢true}
-use Rattle.live_core.specs.declared.event.Answer.TheVariants.{Published}
-use Rattle.live_core.specs.declared.event.Event.TheVariants as events
-use Rattle.live_core.specs.State.{CoreState}
-use Rattle.live_core.specs.Steps.{Follows}
 use Rattle.live_core.proofs.Following.{publish-unfinished, publish-done}
 use Rattle.live_core.proofs.machine.Core.publish.Goals as goal
 

@@ -1,8 +1,4 @@
 -- Each clause is a part of what the private function of that event ensures.
-use Rattle.std.proofs.Common.{◌≡◌, ℕ, List, subst, sym, ap, ◌∙◌}
-use Rattle.live_core.specs.declared.event.Event.{Event}
-use Rattle.live_core.specs.Events.{answer_of, past_after}
-use Rattle.live_core.specs.State.{IsAfter}
 use Rattle.live_core.proofs.machine.Core.step.Goals as goal
 
 pub returns-in-Piece-clause-answer : goal.returns-in-Piece-clause-answer
