@@ -4,11 +4,23 @@
 //! on from here.
 #![tactic(auto)]
 
+mod config;
+mod declaration;
 mod fault;
+mod file_copy;
 #[cfg(test)]
 mod tests;
 mod token;
+mod tree;
+mod tree_copy;
 
+pub use config::Config;
+pub use declaration::{
+    Decl, File, FuncDecl, Group, ImportName, ImportSpec, Receiver, TypeParam, TypeSpec, ValueSpec,
+};
 pub use fault::{Fault, Refused};
+pub use file_copy::{copy_decl, copy_file};
 pub use plain_data::{Bytes, Failed, IoFail, Mem, NoMemory, Seq, Txt};
 pub use token::{Comment, Scanned, Span, Token, TokenKind, TokenRange};
+pub use tree::{ChanDir, Element, Field, Param, Signature, Term, TypeExpr};
+pub use tree_copy::{copy_signature, copy_spans, copy_terms, copy_type};
