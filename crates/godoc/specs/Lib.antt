@@ -5,4 +5,5 @@ pub mod Pages
 pub mod Position
 pub mod Replies
 pub mod Serving
+pub mod Status
 pub mod Words

@@ -1,10 +1,19 @@
--- The words of the command line, after the root folder. This is the project's own.
-use Rattle.std.specs.Prelude.{ℕ, Bool, true, false, ◌&&◌, ◌||◌, not, List, [], ◌∷◌, Option, Some, None, codes, if◌then◌else◌}
+-- Cited by public clauses: the words of the command line. The project's own.
+use Rattle.std.specs.Prelude.{ℕ, Bool, true, false, ◌&&◌, ◌||◌, not, List, [], ◌∷◌, Option, Some, None, codes, drop, slice_index_or, if◌then◌else◌}
 use Rattle.std.specs.List.{list_all}
 use Rattle.std.specs.Str.{bytes_eq}
 use Rattle.godoc.specs.declared.words.Command as commands
 use Rattle.godoc.specs.declared.words.Command.TheVariants as variants
 use Rattle.go_ast.specs.Lexical.{is_letter, is_letter_or_digit, is_among, keywords}
+
+-- the root folder of a command line, which begins with the program's name: the word after that, and the empty text
+-- where there is none
+abbrev pub root_of : List (List ℕ) → List ℕ
+root_of line = slice_index_or line 1 []
+
+-- the words after the root folder
+abbrev pub words_after_root : List (List ℕ) → List (List ℕ)
+words_after_root line = drop 2 line
 
 -- an ASCII letter or `_`, followed by ASCII letters, digits and `_`, that is no keyword
 abbrev pub is_name : List ℕ → Bool

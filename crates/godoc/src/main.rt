@@ -4,7 +4,12 @@
 //! `godoc ROOT answer` answers the HTTP requests of standard input by pages on the packages under a folder.
 #![tactic(auto)]
 
+ghost use Rattle.std.specs.Prelude.{◌≡◌};
+ghost use Rattle.std.specs.Process.{exit_status};
+ghost use Rattle.godoc.specs.Status.{exit_status_of};
+
 mod answer;
+mod command_line;
 mod edition;
 mod find;
 mod lines;
@@ -19,30 +24,18 @@ mod tests;
 mod tests_answer;
 mod words;
 
+use command_line::CommandLine;
 use link_io::{StdSink, StdSource};
 use run::run;
 use status::Status;
-use std::alloc::Global;
 use std::env;
 use std::process::ExitCode;
-use std::rt::Env;
 use tree_io::FsTree;
 
-/// The words of the command line after the program's name, or `None` where they can't be had as text.
-fn command_words<R: Env + AllocGlobal>(rt: &R) -> Option<Vec<String>> {
-    env::args(rt).ok()?.skip(1).collect(rt.alloc()).ok()
-}
-
-/// Takes the root folder off the front of the words: the empty text where there is no word.
-fn take_root(alloc: Global, words: &mut Vec<String>) -> String {
-    if words.is_empty() {
-        return String::new(alloc);
-    }
-    words.remove(0)
-}
-
-/// Tells how a run ended on standard error.
-fn report<R: Eprint>(rt: &R, status: Status) -> ExitCode {
+/// Tells how a run ended: by a line on standard error, where there is one, and by the exit status.
+fn report<R: Eprint>(rt: &R, status: Status) -> ExitCode
+    ensures { exit_status result ≡ exit_status_of status }
+{
     if let Some(message) = status.message() {
         let _ = eprintln!(rt; "{message}");
     }
@@ -50,20 +43,17 @@ fn report<R: Eprint>(rt: &R, status: Status) -> ExitCode {
 }
 
 fn main(rt: HostRuntime) -> ExitCode {
-    let Some(mut words) = command_words(&rt) else {
+    let Ok(arguments) = env::args(&rt) else {
         return report(&rt, Status::Usage);
     };
-    let root = take_root(rt.alloc(), &mut words);
-    let mut tree = FsTree::new(rt, root);
+    let Ok(words) = arguments.collect(rt.alloc()) else {
+        return report(&rt, Status::NoMemory);
+    };
+    let line = CommandLine::new(rt.alloc(), words);
+    let mut tree = FsTree::new(rt, line.root);
     let mut input = StdSource::new(rt);
     let mut out = StdSink::new(rt);
-    let status = run(
-        &rt,
-        rt.alloc(),
-        words.as_slice(),
-        &mut tree,
-        &mut input,
-        &mut out,
-    );
+    let words = line.words.as_slice();
+    let status = run(&rt, rt.alloc(), words, &mut tree, &mut input, &mut out);
     report(&rt, status)
 }

@@ -1,5 +1,8 @@
 //! How a run ended, and why one stopped before its end.
 
+ghost use Rattle.std.specs.Prelude.{◌≡◌, option_copied};
+ghost use Rattle.godoc.specs.Status.{exit_status_of, message_of};
+
 use session::SessionEnd;
 
 /// How a run ended.
@@ -72,7 +75,9 @@ impl From<SessionEnd> for Status {
 
 impl Status {
     /// The exit status of a program that ends so.
-    pub fn exit_status(self) -> u8 {
+    pub fn exit_status(self) -> u8
+        ensures { result ≡ exit_status_of self }
+    {
         match self {
             Status::Done => 0,
             Status::Usage => 2,
@@ -86,7 +91,9 @@ impl Status {
     }
 
     /// The line that a program which ends so writes to standard error, if there is one.
-    pub fn message(self) -> Option<&'static str> {
+    pub fn message(self) -> Option<&'static str>
+        ensures { option_copied result ≡ message_of self }
+    {
         match self {
             Status::Done => None,
             Status::Usage => Some(
