@@ -16,9 +16,11 @@ use Rattle.link_io.proofs.StreamLemmas.{Takes-then, Takes-none, Adds-then, Adds-
 use Rattle.publication.specs.View.{View, StartsWith}
 use Rattle.session.specs.declared.session_end.SessionEnd.{SessionEnd}
 use Rattle.session.specs.declared.session_end.SessionEnd.TheVariants as ends
+use Rattle.session.specs.declared.session_end.Stop.{Stop}
+use Rattle.session.specs.declared.session_end.Stop.TheVariants as stops
 use Rattle.session.specs.Incoming.{Hears, KnowsEnd}
 use Rattle.session.specs.Session.{Session, IsAnswered}
-use Rattle.session.specs.Steps.{Writes, Refuses}
+use Rattle.session.specs.Steps.{Writes, end_after}
 use Rattle.session.specs.Text.{Replier, is_last, answerable, answerable_from, edition_at, replies_from, some_closes, is_bad, refusal, end_at}
 use Rattle.session.proofs.AnsweredLemmas.{answerable-begins, answerable-next, answerable-closed, answerable-all, answerable-limit, some_closes-append, refusal-at_end, refusal-closed, refusal-full, end_of-at_end, end_of-closed, end_of-full, answered_starved, answered_cut, answered_whole}
 use Rattle.session.proofs.ReplyLemmas.{Enters, newest_reply, StartsWith-then}
@@ -353,9 +355,9 @@ Session-unbegun reply left held view =
 -- a read failed, or memory was wanting for what came
 pub Session-unheard : {E : Type 0} (reply : Replier E) (left middle after held held_now : Option (List ℕ)) (old view : View E) (reading now : Reading) (count : ℕ)
     → Progress reply left middle held held_now old view reading.rest count → count < 1000
-    → (end : SessionEnd) → Hears middle after reading now (Err end) → KnowsEnd after now
-    → Session reply left after held held_now old view end
-Session-unheard reply left middle after held held_now old view reading now count so_far room ends.ReadFault hears at_end =
+    → (stop : Stop) → Hears middle after reading now (Err stop) → KnowsEnd after now
+    → Session reply left after held held_now old view (end_after stop)
+Session-unheard reply left middle after held held_now old view reading now count so_far room stops.ReadFault hears at_end =
     let heard = hears.comes so_far.read so_far.given so_far.has_given in
     Session-from reply left after held held_now old view ends.ReadFault (so_far.read ++ hears.bytes) so_far.written so_far.entries now.ended
     (Takes-then left middle after so_far.read hears.bytes so_far.takes hears.takes) so_far.adds so_far.gains so_far.known so_far.fresh at_end (λ _. heard.0)
@@ -364,16 +366,13 @@ Session-unheard reply left middle after held held_now old view reading now count
     let same = Requests_unique (so_far.read ++ hears.bytes) false requests so_far.given end Unfinished here heard.1 in
     subst (λ w. IsAnswered reply view.seen requests w so_far.entries so_far.written ends.ReadFault) (sym same.1)
     (ends_there reply left middle held held_now old view reading.rest count so_far room requests Unfinished ends.ReadFault so_far.written same.0 refl (sym (append-nil so_far.written)) (λ e. cc) (λ e. cc)))
-Session-unheard reply left middle after held held_now old view reading now count so_far room ends.NoMemory hears at_end =
+Session-unheard reply left middle after held held_now old view reading now count so_far room stops.NoMemory hears at_end =
     Session-from reply left after held held_now old view ends.NoMemory (so_far.read ++ hears.bytes) so_far.written so_far.entries now.ended
     (Takes-then left middle after so_far.read hears.bytes so_far.takes hears.takes) so_far.adds so_far.gains so_far.known so_far.fresh at_end (λ e. cc)
     (λ ended later fault requests end all.
     starved_there reply left middle held held_now old view reading.rest count so_far room (so_far.read ++ hears.bytes) now.rest ended
     (hears.comes so_far.read so_far.given so_far.has_given) requests end all)
-Session-unheard reply left middle after held held_now old view reading now count so_far room ends.Closed hears at_end = absurd (hears.comes so_far.read so_far.given so_far.has_given)
-Session-unheard reply left middle after held held_now old view reading now count so_far room ends.Refused hears at_end = absurd (hears.comes so_far.read so_far.given so_far.has_given)
-Session-unheard reply left middle after held held_now old view reading now count so_far room ends.Full hears at_end = absurd (hears.comes so_far.read so_far.given so_far.has_given)
-Session-unheard reply left middle after held held_now old view reading now count so_far room ends.WriteFault hears at_end = absurd (hears.comes so_far.read so_far.given so_far.has_given)
+Session-unheard reply left middle after held held_now old view reading now count so_far room stops.WriteFault hears at_end = absurd (hears.comes so_far.read so_far.given so_far.has_given)
 
 -- the input ended between two requests
 pub Session-clean : {E : Type 0} (reply : Replier E) (left middle after held held_now : Option (List ℕ)) (old view : View E) (reading now : Reading) (count : ℕ)
@@ -397,9 +396,9 @@ Session-clean reply left middle after held held_now old view reading now count s
 pub Session-refused : {E : Type 0} (reply : Replier E) (left middle after held held_now held_after : Option (List ℕ)) (old view : View E) (reading now : Reading) (count : ℕ)
     → Progress reply left middle held held_now old view reading.rest count → count < 1000
     → Hears middle after reading now (Ok answers.Bad) → KnowsEnd after now
-    → (end : SessionEnd) → Refuses held_now held_after end
-    → Session reply left after held held_after old view end
-Session-refused reply left middle after held held_now held_after old view reading now count so_far room hears at_end ends.Refused adds =
+    → Adds held_now bad_reply_bytes held_after
+    → Session reply left after held held_after old view ends.Refused
+Session-refused reply left middle after held held_now held_after old view reading now count so_far room hears at_end adds =
     let fed : List ℕ = so_far.read ++ hears.bytes in
     let heard = hears.comes so_far.read so_far.given so_far.has_given in
     Session-from reply left after held held_after old view ends.Refused fed (so_far.written ++ bad_reply_bytes) so_far.entries now.ended
@@ -409,7 +408,14 @@ Session-refused reply left middle after held held_now held_after old view readin
     let same = Requests_unique fed ended requests so_far.given end Bad all (bad_at_end fed now.ended ended so_far.given later heard.1) in
     subst (λ w. IsAnswered reply view.seen requests w so_far.entries (so_far.written ++ bad_reply_bytes) ends.Refused) (sym same.1)
     (ends_there reply left middle held held_now old view reading.rest count so_far room requests Bad ends.Refused (so_far.written ++ bad_reply_bytes) same.0 refl refl (λ e. cc) (λ e. cc)))
-Session-refused reply left middle after held held_now held_after old view reading now count so_far room hears at_end ends.WriteFault part =
+
+-- the bad reply wasn't written whole, or wasn't made
+pub Session-unrefused : {E : Type 0} (reply : Replier E) (left middle after held held_now held_after : Option (List ℕ)) (old view : View E) (reading now : Reading) (count : ℕ)
+    → Progress reply left middle held held_now old view reading.rest count → count < 1000
+    → Hears middle after reading now (Ok answers.Bad) → KnowsEnd after now
+    → (stop : Stop) → Writes bad_reply_bytes held_now held_after (Err stop)
+    → Session reply left after held held_after old view (end_after stop)
+Session-unrefused reply left middle after held held_now held_after old view reading now count so_far room hears at_end stops.WriteFault part =
     let fed : List ℕ = so_far.read ++ hears.bytes in
     let heard = hears.comes so_far.read so_far.given so_far.has_given in
     let written : List ℕ = so_far.written ++ take part.0 bad_reply_bytes in
@@ -421,7 +427,7 @@ Session-refused reply left middle after held held_now held_after old view readin
     subst (λ w. IsAnswered reply view.seen requests w so_far.entries written ends.WriteFault) (sym same.1)
     (subst (λ w. IsAnswered reply view.seen w Bad so_far.entries written ends.WriteFault) (sym same.0)
     (cut_in_refusal reply left middle held held_now old view reading.rest count so_far room part.0)))
-Session-refused reply left middle after held held_now held_after old view reading now count so_far room hears at_end ends.NoMemory same =
+Session-unrefused reply left middle after held held_now held_after old view reading now count so_far room hears at_end stops.NoMemory same =
     let fed : List ℕ = so_far.read ++ hears.bytes in
     let heard = hears.comes so_far.read so_far.given so_far.has_given in
     Session-from reply left after held held_after old view ends.NoMemory fed so_far.written so_far.entries now.ended
@@ -429,9 +435,7 @@ Session-refused reply left middle after held held_now held_after old view readin
     so_far.gains so_far.known so_far.fresh at_end (λ e. cc)
     (λ ended later fault requests end all.
     starved_there reply left middle held held_now old view reading.rest count so_far room fed now.rest ended heard.0 requests end all)
-Session-refused reply left middle after held held_now held_after old view reading now count so_far room hears at_end ends.Closed none = absurd none
-Session-refused reply left middle after held held_now held_after old view reading now count so_far room hears at_end ends.Full none = absurd none
-Session-refused reply left middle after held held_now held_after old view reading now count so_far room hears at_end ends.ReadFault none = absurd none
+Session-unrefused reply left middle after held held_now held_after old view reading now count so_far room hears at_end stops.ReadFault none = absurd none
 
 -- memory was wanting behind an entry
 starved_with_entry : {E : Type 0} (reply : Replier E) (left middle after held held_now : Option (List ℕ)) (old view new : View E) (reading now : Reading) (count : ℕ) (request : Request)
@@ -470,9 +474,9 @@ pub Session-unanswered : {E : Type 0} (reply : Replier E) (left middle after hel
     → Progress reply left middle held held_now old view reading.rest count → count < 1000
     → Hears middle after reading now (Ok (answers.Head request)) → KnowsEnd after now
     → Enters view new → StartsWith new.seen view.seen → last ≡ is_last (count + 1) request
-    → (end : SessionEnd) → Writes (newest_reply reply new request last) held_now held_after (Err end)
-    → Session reply left after held held_after old new end
-Session-unanswered reply left middle after held held_now held_after old view new reading now count request last so_far room hears at_end enters later last_is ends.WriteFault part =
+    → (stop : Stop) → Writes (newest_reply reply new request last) held_now held_after (Err stop)
+    → Session reply left after held held_after old new (end_after stop)
+Session-unanswered reply left middle after held held_now held_after old view new reading now count request last so_far room hears at_end enters later last_is stops.WriteFault part =
     let fed : List ℕ = so_far.read ++ hears.bytes in
     let heard = hears.comes so_far.read so_far.given so_far.has_given in
     let made : List ℕ = newest_reply reply new request last in
@@ -481,13 +485,10 @@ Session-unanswered reply left middle after held held_now held_after old view new
     (gains_with so_far new request last enters later last_is) (known_with so_far new request last enters later last_is) (fresh_with so_far new request last enters later last_is) at_end (λ e. cc)
     (λ ended after_end fault requests end all.
     cut_in_reply so_far new request last enters later last_is room fed now.rest ended heard part.0 requests end all)
-Session-unanswered reply left middle after held held_now held_after old view new reading now count request last so_far room hears at_end enters later last_is ends.NoMemory same =
+Session-unanswered reply left middle after held held_now held_after old view new reading now count request last so_far room hears at_end enters later last_is stops.NoMemory same =
     subst (λ w. Session reply left after held w old new ends.NoMemory) (sym same)
     (starved_with_entry reply left middle after held held_now old view new reading now count request so_far room hears at_end later enters)
-Session-unanswered reply left middle after held held_now held_after old view new reading now count request last so_far room hears at_end enters later last_is ends.Closed none = absurd none
-Session-unanswered reply left middle after held held_now held_after old view new reading now count request last so_far room hears at_end enters later last_is ends.Refused none = absurd none
-Session-unanswered reply left middle after held held_now held_after old view new reading now count request last so_far room hears at_end enters later last_is ends.Full none = absurd none
-Session-unanswered reply left middle after held held_now held_after old view new reading now count request last so_far room hears at_end enters later last_is ends.ReadFault none = absurd none
+Session-unanswered reply left middle after held held_now held_after old view new reading now count request last so_far room hears at_end enters later last_is stops.ReadFault none = absurd none
 
 -- the last request asked for a close
 pub Session-closed : {E : Type 0} (reply : Replier E) (left middle after held held_now held_after : Option (List ℕ)) (old view new : View E) (reading now : Reading) (count : ℕ) (request : Request) (last : Bool)

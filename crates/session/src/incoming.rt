@@ -1,15 +1,15 @@
 //! The requests that come in over a link.
 
 ghost use Rattle.std.specs.Prelude.{◌≡◌, ℕ, ◌+◌, ◌<◌, ◌≤◌, ◌⊎◌, List, [], ◌++◌, length, false, IfOk, IfSome, OnOk, OnErr, IsTrue, Ok};
-ghost use Rattle.plain_data.specs.Causes.{HasCause, Rose};
+ghost use Rattle.plain_data.specs.Causes.{HasCause, IsCaused};
 ghost use Rattle.http_wire.specs.declared.heads.Next.TheVariants as answers;
 ghost use Rattle.link_io.specs.Streams.{Takes};
 ghost use Rattle.session.specs.Incoming.{Hears, KnowsEnd};
 
-use crate::session_end::SessionEnd;
-use plain_data::Failed;
+use crate::session_end::Stop;
 use http_wire::{Heads, Next};
 use link_io::Link;
+use plain_data::Failed;
 use std::alloc::Global;
 
 /// The most bytes of one read.
@@ -48,14 +48,14 @@ pub(crate) fn next_head<L: Link>(
     alloc: Global,
     link: &mut L,
     heads: &mut Heads,
-) -> Result<Next, SessionEnd>
+) -> Result<Next, Stop>
     ensures hears { Hears (L.remaining link.old) (L.remaining link.new) heads.old heads.new result }
     ensures decided { result ≡ Ok answers.More → ⊥ }
     ensures end { KnowsEnd (L.remaining link.old) heads.old → KnowsEnd (L.remaining link.new) heads.new }
 
     // Why a read failed, and what stays of the link.
-    ensures cause { result ≡ Err SessionEnd.ReadFault → Rose (L.read_faults link.old) (L.read_faults link.new) }
-    ensures later { L.read_faults link.old ≤ L.read_faults link.new }
+    ensures read_faults { IsCaused (L.read_faults link.old) (L.read_faults link.new)
+        (result ≡ Err Stop.ReadFault) }
     ensures held { L.held link.new ≡ L.held link.old }
     ensures write_faults { L.write_faults link.new ≡ L.write_faults link.old }
     ensures same_references { L.Source.references link.new ≡ L.Source.references link.old }
@@ -64,7 +64,7 @@ pub(crate) fn next_head<L: Link>(
         match heads.next(alloc)? {
             Next::More => {
                 if read_piece(link, heads).is_err() {
-                    return Err(SessionEnd::ReadFault);
+                    return Err(Stop::ReadFault);
                 }
             }
             next => return Ok(next),

@@ -3,8 +3,8 @@
 ghost use Rattle.std.specs.Prelude.{◌≡◌, ℕ, Bool, List, IfOk};
 ghost use Rattle.http_wire.specs.declared.request.Request.{Request};
 
-use plain_data::Mem;
 use http_wire::Request;
+use plain_data::Mem;
 use std::alloc::Global;
 
 /// What makes the reply to a request of one edition.

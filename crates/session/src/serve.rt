@@ -2,15 +2,16 @@
 
 ghost use Rattle.std.specs.Prelude.{◌≡◌, ℕ, ◌≤◌, ◌≢◌, length, Ok};
 ghost use Rattle.std.specs.Arc.{arc_value};
-ghost use Rattle.plain_data.specs.Causes.{Rose};
+ghost use Rattle.plain_data.specs.Causes.{IsCaused};
+ghost use Rattle.http_wire.specs.Reply.{bad_reply_bytes};
 ghost use Rattle.publication.specs.View.{IsOfOneEdition, IsView, StartsWith};
 ghost use Rattle.session.specs.Session.{Session};
-ghost use Rattle.session.specs.Steps.{Refuses, Writes, end_by};
+ghost use Rattle.session.specs.Steps.{Writes, end_by};
 ghost use Rattle.session.specs.Text.{is_last};
 
 use crate::incoming::next_head;
 use crate::responder::Responder;
-use crate::session_end::SessionEnd;
+use crate::session_end::{SessionEnd, Stop};
 use http_wire::{Heads, Next, Request, bad_reply};
 use link_io::{Link, write_whole};
 use publication::{EditionReader, Entered};
@@ -38,11 +39,12 @@ pub fn serve_link<L: Link, E: Drop, R: Responder<E>>(
     ensures session { Session (R.reply_of site.now) (L.remaining link.old) (L.remaining link.new)
         (L.held link.old) (L.held link.new) reader.old reader.new result }
 
-    // On every link a fault is answered only where its count rose in this call, or stands at its end.
-    ensures read_fault { result ≡ SessionEnd.ReadFault → Rose (L.read_faults link.old) (L.read_faults link.new) }
-    ensures write_fault { result ≡ SessionEnd.WriteFault → Rose (L.write_faults link.old) (L.write_faults link.new) }
-    ensures read_faults_later { L.read_faults link.old ≤ L.read_faults link.new }
-    ensures write_faults_later { L.write_faults link.old ≤ L.write_faults link.new }
+    // On every link a session ends by a fault only where its count rose in this call, or stands at its end, and
+    // by anything else only where the count is as it was.
+    ensures read_faults { IsCaused (L.read_faults link.old) (L.read_faults link.new)
+        (result ≡ SessionEnd.ReadFault) }
+    ensures write_faults { IsCaused (L.write_faults link.old) (L.write_faults link.new)
+        (result ≡ SessionEnd.WriteFault) }
     ensures same_references { L.Source.references link.new ≡ L.Source.references link.old }
 
     // The reader stays one of the same opening, and has seen no less.
@@ -55,8 +57,8 @@ pub fn serve_link<L: Link, E: Drop, R: Responder<E>>(
     ensures one_edition { IsOfOneEdition reader.old → IsOfOneEdition reader.new }
 {
     match answer_requests(alloc, link, reader, site) {
-        Ok(()) => SessionEnd::Full,
-        Err(end) => end,
+        Ok(end) => end,
+        Err(stop) => SessionEnd::from(stop),
     }
 }
 
@@ -73,13 +75,13 @@ fn answer_requests<L: Link, E: Drop, R: Responder<E>>(
     link: &mut L,
     reader: &mut EditionReader<E>,
     site: &R,
-) -> Result<(), SessionEnd>
+) -> Result<SessionEnd, Stop>
     ensures session { Session (R.reply_of site.now) (L.remaining link.old) (L.remaining link.new)
         (L.held link.old) (L.held link.new) reader.old reader.new (end_by result) }
-    ensures read_fault { end_by result ≡ SessionEnd.ReadFault → Rose (L.read_faults link.old) (L.read_faults link.new) }
-    ensures write_fault { end_by result ≡ SessionEnd.WriteFault → Rose (L.write_faults link.old) (L.write_faults link.new) }
-    ensures read_faults_later { L.read_faults link.old ≤ L.read_faults link.new }
-    ensures write_faults_later { L.write_faults link.old ≤ L.write_faults link.new }
+    ensures read_faults { IsCaused (L.read_faults link.old) (L.read_faults link.new)
+        (end_by result ≡ SessionEnd.ReadFault) }
+    ensures write_faults { IsCaused (L.write_faults link.old) (L.write_faults link.new)
+        (end_by result ≡ SessionEnd.WriteFault) }
     ensures same_references { L.Source.references link.new ≡ L.Source.references link.old }
     ensures opening { reader.new.opening ≡ reader.old.opening }
     ensures later { StartsWith reader.new.seen reader.old.seen }
@@ -91,18 +93,21 @@ fn answer_requests<L: Link, E: Drop, R: Responder<E>>(
     for answered in 0..REQUEST_LIMIT {
         let request = match next_head(alloc, link, &mut heads)? {
             Next::Head(request) => request,
-            Next::Bad => return Err(refuse(alloc, link)),
-            Next::Clean => return Err(SessionEnd::Closed),
+            Next::Bad => {
+                refuse(alloc, link)?;
+                return Ok(SessionEnd::Refused);
+            }
+            Next::Clean => return Ok(SessionEnd::Closed),
             Next::More => unreachable!(),
         };
         let entered = reader.enter()?;
         let last = is_last(answered + 1, &request);
         answer(alloc, link, site, &entered, &request, last)?;
         if request.close {
-            return Err(SessionEnd::Closed);
+            return Ok(SessionEnd::Closed);
         }
     }
-    Ok(())
+    Ok(SessionEnd::Full)
 }
 
 // Answers one request by the edition of an entry. The reply is whole before its first byte is written.
@@ -113,36 +118,43 @@ fn answer<L: Link, E, R: Responder<E>>(
     entered: &Entered<E>,
     request: &Request,
     last: bool,
-) -> Result<(), SessionEnd>
+) -> Result<(), Stop>
     ensures writes { Writes (R.reply_of site.now entered.now.number (arc_value entered.now.edition) request.now last)
         (L.held link.old) (L.held link.new) result }
-    ensures write_fault { result ≡ Err SessionEnd.WriteFault → Rose (L.write_faults link.old) (L.write_faults link.new) }
-    ensures write_faults_later { L.write_faults link.old ≤ L.write_faults link.new }
-    ensures left { L.remaining link.new ≡ L.remaining link.old }
+    ensures write_faults { IsCaused (L.write_faults link.old) (L.write_faults link.new)
+        (result ≡ Err Stop.WriteFault) }
+    ensures remaining { L.remaining link.new ≡ L.remaining link.old }
     ensures read_faults { L.read_faults link.new ≡ L.read_faults link.old }
     ensures same_references { L.Source.references link.new ≡ L.Source.references link.old }
 {
     let reply = site.reply(alloc, entered.number, &entered.edition, request, last)?;
-    match write_whole(link, &reply) {
-        Ok(()) => Ok(()),
-        Err(_) => Err(SessionEnd::WriteFault),
-    }
+    write_reply(link, &reply)
 }
 
-// Writes the bad reply, which is the last, and answers how the session ends.
-fn refuse<L: Link>(alloc: Global, link: &mut L) -> SessionEnd
-    ensures refuses { Refuses (L.held link.old) (L.held link.new) result }
-    ensures write_fault { result ≡ SessionEnd.WriteFault → Rose (L.write_faults link.old) (L.write_faults link.new) }
-    ensures write_faults_later { L.write_faults link.old ≤ L.write_faults link.new }
-    ensures left { L.remaining link.new ≡ L.remaining link.old }
+// Writes the bad reply.
+fn refuse<L: Link>(alloc: Global, link: &mut L) -> Result<(), Stop>
+    ensures writes { Writes bad_reply_bytes (L.held link.old) (L.held link.new) result }
+    ensures write_faults { IsCaused (L.write_faults link.old) (L.write_faults link.new)
+        (result ≡ Err Stop.WriteFault) }
+    ensures remaining { L.remaining link.new ≡ L.remaining link.old }
     ensures read_faults { L.read_faults link.new ≡ L.read_faults link.old }
     ensures same_references { L.Source.references link.new ≡ L.Source.references link.old }
 {
-    let Ok(refusal) = bad_reply(alloc) else {
-        return SessionEnd::NoMemory;
-    };
-    match write_whole(link, &refusal) {
-        Ok(()) => SessionEnd::Refused,
-        Err(_) => SessionEnd::WriteFault,
+    let reply = bad_reply(alloc)?;
+    write_reply(link, &reply)
+}
+
+// Writes a reply that was made whole.
+fn write_reply<L: Link>(link: &mut L, reply: &[u8]) -> Result<(), Stop>
+    ensures writes { Writes reply.now (L.held link.old) (L.held link.new) result }
+    ensures write_faults { IsCaused (L.write_faults link.old) (L.write_faults link.new)
+        (result ≡ Err Stop.WriteFault) }
+    ensures remaining { L.remaining link.new ≡ L.remaining link.old }
+    ensures read_faults { L.read_faults link.new ≡ L.read_faults link.old }
+    ensures same_references { L.Source.references link.new ≡ L.Source.references link.old }
+{
+    match write_whole(link, reply) {
+        Ok(()) => Ok(()),
+        Err(_) => Err(Stop::WriteFault),
     }
 }

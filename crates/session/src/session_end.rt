@@ -19,13 +19,39 @@ pub enum SessionEnd {
     NoMemory,
 }
 
-impl From<NoMemory> for SessionEnd {
+/// Why a session stopped before an end that its requests give.
+#[derive(Clone, Copy, Debug, PartialEq, Eq)]
+pub(crate) enum Stop {
+    /// A read failed.
+    ReadFault,
+    /// A write failed.
+    WriteFault,
+    /// An allocation was refused.
+    NoMemory,
+}
+
+impl From<NoMemory> for Stop {
     ghost use Rattle.std.specs.Prelude.{◌≡◌};
-    ghost use Rattle.session.specs.declared.session_end.SessionEnd.TheVariants as ends;
+    ghost use Rattle.session.specs.declared.session_end.Stop.TheVariants as stops;
 
-    ghost from_gives = { λ _ end. end ≡ ends.NoMemory };
+    ghost from_gives = { λ _ stop. stop ≡ stops.NoMemory };
 
-    fn from(_: NoMemory) -> SessionEnd {
-        SessionEnd::NoMemory
+    fn from(_: NoMemory) -> Stop {
+        Stop::NoMemory
+    }
+}
+
+impl From<Stop> for SessionEnd {
+    ghost use Rattle.std.specs.Prelude.{◌≡◌};
+    ghost use Rattle.session.specs.Steps.{end_after};
+
+    ghost from_gives = { λ stop end. end ≡ end_after stop };
+
+    fn from(stop: Stop) -> SessionEnd {
+        match stop {
+            Stop::ReadFault => SessionEnd::ReadFault,
+            Stop::WriteFault => SessionEnd::WriteFault,
+            Stop::NoMemory => SessionEnd::NoMemory,
+        }
     }
 }

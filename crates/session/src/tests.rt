@@ -1,12 +1,12 @@
 ghost use Rattle.std.specs.Prelude.{◌≡◌, ◌+◌, ◌%◌, ◌<◌, ℕ, [], ◌∷◌, ◌++◌, codes, if◌then◌else◌};
-ghost use Rattle.plain_data.specs.Causes.{Rose};
+ghost use Rattle.plain_data.specs.Causes.{IsCaused};
 ghost use Rattle.http_wire.specs.declared.request.Verb.TheVariants as verbs;
 ghost use Rattle.session.specs.Session.{Session};
 
 use super::*;
-use plain_data::Mem;
 use http_wire::{Request, Verb};
 use link_io::{Both, Link, MemLink, MemSink, MemSource, Sink, Source};
+use plain_data::Mem;
 use publication::{EditionReader, open_editions};
 use std::alloc::Global;
 use std::sync::Arc;
@@ -59,8 +59,10 @@ fn serve_between<I: Source, O: Sink, E: Drop, R: Responder<E>>(
 ) -> SessionEnd
     ensures session { Session (R.reply_of site.now) (I.remaining input.old) (I.remaining input.new)
         (O.held out.old) (O.held out.new) reader.old reader.new result }
-    ensures read_fault { result ≡ SessionEnd.ReadFault → Rose (I.read_faults input.old) (I.read_faults input.new) }
-    ensures write_fault { result ≡ SessionEnd.WriteFault → Rose (O.write_faults out.old) (O.write_faults out.new) }
+    ensures read_faults { IsCaused (I.read_faults input.old) (I.read_faults input.new)
+        (result ≡ SessionEnd.ReadFault) }
+    ensures write_faults { IsCaused (O.write_faults out.old) (O.write_faults out.new)
+        (result ≡ SessionEnd.WriteFault) }
 {
     serve_link(alloc, &mut Both { input, out }, reader, site)
 }

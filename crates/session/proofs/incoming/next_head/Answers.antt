@@ -9,7 +9,7 @@ loop-link-preserved g c =
     record {
       heard = HasHeard-more _ _ _ _ _ _ _ fed.0 c.loop-link.invariant.heard (rest_after_more _ _ _ c.in_ok-next.ensures.answer c.in-More.is) fed.1 fed.2;
       end = λ _. c.read_piece.ensures.end;
-      later = search rules;
+      read_faults = search rules;
       held = search rules;
       write_faults = search rules;
       same_references = search rules;

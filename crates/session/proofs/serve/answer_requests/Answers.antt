@@ -1,10 +1,11 @@
 -- Each way out of the session, and one request more.
 use Rattle.std.proofs.Common.{⊎_elim, inl, inr, Option, List, ℕ, Err, rules, subst, arith}
 use Rattle.std.proofs.lemmas.Result.{err_from_is_err_and}
-use Rattle.session.proofs.Progress.{Session-full, Session-unanswered, Session-refused, Session-closed, Session-clean, Session-unheard, Session-unentered, Progress-more, Session-unbegun}
+use Rattle.session.proofs.Progress.{Session-full, Session-unanswered, Session-refused, Session-unrefused, Session-closed, Session-clean, Session-unheard, Session-unentered, Progress-more, Session-unbegun}
 use Rattle.session.proofs.ReplyLemmas.{newest_reply, StartsWith-then, known_entry, newest_reply-made}
+use Rattle.http_wire.specs.Reply.{bad_reply_bytes}
 use Rattle.link_io.specs.Streams.{Adds}
-use Rattle.session.specs.Steps.{Writes, Refuses}
+use Rattle.session.specs.Steps.{Writes}
 use Rattle.session.proofs.serve.answer_requests.Goals as goal
 
 pub returns-in_err-heads-clause-session : goal.returns-in_err-heads-clause-session
@@ -18,12 +19,20 @@ returns-in_err-request-clause-session g c =
     rw (p.1, p.2, c.next_head.ensures.held)
     (Session-unheard _ _ _ _ _ _ _ _ _ _ _ c.loop-answered.invariant.progress (omega arith) _ c.in_err-request.ensures.hears (c.next_head.ensures.end c.loop-answered.invariant.end))
 
+pub returns-in_err-refuse-in-Bad-clause-session : goal.returns-in_err-refuse-in-Bad-clause-session
+returns-in_err-refuse-in-Bad-clause-session g c =
+    let hears = rw c.in-Bad.is at c.in_ok-request.ensures.hears in
+    let p = err_from_is_err_and c.from_residual-in_err-refuse-in-Bad.result c.from_residual-in_err-refuse-in-Bad.ensures.1 in
+    rw (p.1, p.2, c.refuse.ensures.remaining)
+    (Session-unrefused _ _ _ _ _ _ _ _ _ _ _ _ c.loop-answered.invariant.progress (omega arith) hears (c.next_head.ensures.end c.loop-answered.invariant.end) _
+    (subst (λ (w : Option (List ℕ)). Writes bad_reply_bytes w (g.L.Sink.held c.refuse.new.link) (Err c.in_err-refuse-in-Bad.field-0.0)) c.next_head.ensures.held c.in_err-refuse-in-Bad.ensures.writes))
+
 pub returns-in-Bad-clause-session : goal.returns-in-Bad-clause-session
 returns-in-Bad-clause-session g c =
     let hears = rw c.in-Bad.is at c.in_ok-request.ensures.hears in
-    rw c.refuse.ensures.left
-    (Session-refused _ _ _ _ _ _ _ _ _ _ _ _ c.loop-answered.invariant.progress (omega arith) hears (c.next_head.ensures.end c.loop-answered.invariant.end) _
-    (subst (λ (w : Option (List ℕ)). Refuses w (g.L.Sink.held c.refuse.new.link) c.refuse.result) c.next_head.ensures.held c.refuse.ensures.refuses))
+    rw c.refuse.ensures.remaining
+    (Session-refused _ _ _ _ _ _ _ _ _ _ _ _ c.loop-answered.invariant.progress (omega arith) hears (c.next_head.ensures.end c.loop-answered.invariant.end)
+    (rw c.next_head.ensures.held at c.in_ok-refuse-in-Bad.ensures.writes))
 
 pub returns-in-Clean-clause-session : goal.returns-in-Clean-clause-session
 returns-in-Clean-clause-session g c =
@@ -46,7 +55,7 @@ returns-in_err-answer-clause-session g c =
     let made = newest_reply-made (g.R.Responder.reply_of c.args.site.now) c.enter.new.self c.in-Head.request c.is_last-last.result _ _ c.in_ok-entered.ensures.newest c.in_ok-entered.ensures.number in
     let p = err_from_is_err_and c.from_residual-in_err-answer.result c.from_residual-in_err-answer.ensures.1 in
     let writes = subst (λ (w : List ℕ). Writes w (g.L.Sink.held c.next_head.new.link) (g.L.Sink.held c.answer.new.link) (Err c.in_err-answer.field-0.0)) made c.in_err-answer.ensures.writes in
-    rw (p.1, p.2, c.answer.ensures.left)
+    rw (p.1, p.2, c.answer.ensures.remaining)
     (Session-unanswered _ _ _ _ _ _ _ _ _ _ _ _ _ _ _ c.loop-answered.invariant.progress (omega arith) hears (c.next_head.ensures.end c.loop-answered.invariant.end)
     enters c.in_ok-entered.ensures.later c.is_last-last.ensures _
     (subst (λ (w : Option (List ℕ)). Writes (newest_reply (g.R.Responder.reply_of c.args.site.now) c.enter.new.self c.in-Head.request c.is_last-last.result) w (g.L.Sink.held c.answer.new.link) (Err c.in_err-answer.field-0.0))
@@ -58,7 +67,7 @@ returns-then-request-clause-session g c =
     let enters = known_entry _ _ c.in_ok-entered.ensures.view c.in_ok-entered.ensures.entry in
     let made = newest_reply-made (g.R.Responder.reply_of c.args.site.now) c.enter.new.self c.in-Head.request c.is_last-last.result _ _ c.in_ok-entered.ensures.newest c.in_ok-entered.ensures.number in
     let adds = subst (λ (w : List ℕ). Adds (g.L.Sink.held c.next_head.new.link) w (g.L.Sink.held c.answer.new.link)) made c.in_ok-answer.ensures.writes in
-    rw c.answer.ensures.left
+    rw c.answer.ensures.remaining
     (Session-closed _ _ _ _ _ _ _ _ _ _ _ _ _ _ _ c.loop-answered.invariant.progress (omega arith) hears (c.next_head.ensures.end c.loop-answered.invariant.end)
     enters c.in_ok-entered.ensures.later c.is_last-last.ensures (rw c.next_head.ensures.held at adds) c.if-request.true)
 
@@ -69,12 +78,12 @@ loop-answered-preserved g c =
     let made = newest_reply-made (g.R.Responder.reply_of c.args.site.now) c.enter.new.self c.in-Head.request c.is_last-last.result _ _ c.in_ok-entered.ensures.newest c.in_ok-entered.ensures.number in
     let adds = subst (λ (w : List ℕ). Adds (g.L.Sink.held c.next_head.new.link) w (g.L.Sink.held c.answer.new.link)) made c.in_ok-answer.ensures.writes in
     record {
-      progress = rw c.answer.ensures.left
+      progress = rw c.answer.ensures.remaining
           (Progress-more _ _ _ _ _ _ _ _ _ _ _ _ _ _ _ c.loop-answered.invariant.progress hears
           enters c.in_ok-entered.ensures.later c.is_last-last.ensures (rw c.next_head.ensures.held at adds) c.if-request.false);
-      end = rw c.answer.ensures.left (c.next_head.ensures.end c.loop-answered.invariant.end);
-      read_faults_later = search rules;
-      write_faults_later = search rules;
+      end = rw c.answer.ensures.remaining (c.next_head.ensures.end c.loop-answered.invariant.end);
+      read_faults = search rules;
+      write_faults = search rules;
       same_references = search rules;
       opening = search rules;
       later = StartsWith-then _ _ _ c.loop-answered.invariant.later c.in_ok-entered.ensures.later;

@@ -9,8 +9,8 @@ abbrev pub invariant-loop-answered : goal.invariant-loop-answered
 invariant-loop-answered g l = record {
   progress : Progress (g.R.Responder.reply_of l.site) (g.L.Source.remaining l.initial.link) (g.L.Source.remaining l.link) (g.L.Sink.held l.initial.link) (g.L.Sink.held l.link) l.initial.reader l.reader l.heads.rest l.answered;
   end : KnowsEnd (g.L.Source.remaining l.link) l.heads;
-  read_faults_later : g.L.Source.read_faults l.initial.link ≤ g.L.Source.read_faults l.link;
-  write_faults_later : g.L.Sink.write_faults l.initial.link ≤ g.L.Sink.write_faults l.link;
+  read_faults : g.L.Source.read_faults l.link ≡ g.L.Source.read_faults l.initial.link;
+  write_faults : g.L.Sink.write_faults l.link ≡ g.L.Sink.write_faults l.initial.link;
   same_references : g.L.Source.references l.link ≡ g.L.Source.references l.initial.link;
   opening : l.reader.opening ≡ l.initial.reader.opening;
   later : StartsWith l.reader.seen l.initial.reader.seen;
