@@ -1,2 +1,2 @@
-pub mod Stops
-pub mod StreamLemmas
+pub mod Laws
+mod Stops

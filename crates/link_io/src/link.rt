@@ -9,10 +9,12 @@ use plain_data::Failed;
 /// A source and a sink to one peer: a read leaves what a write changes, and the other way round.
 pub trait Link: Source + Sink {
     /// A read leaves the bytes that are held and the count of failed writes.
-    ghost read_leaves: { (link : Self) → Self.Source.beside link ≡ record { bytes = Self.held link; faults = Self.write_faults link } };
+    ghost read_leaves: { (link : Self) → Self.Source.beside link
+        ≡ record { bytes = Self.held link; faults = Self.write_faults link } };
 
     /// A write leaves the bytes that remain and the count of failed reads.
-    ghost write_leaves: { (link : Self) → Self.Sink.beside link ≡ record { bytes = Self.remaining link; faults = Self.read_faults link } };
+    ghost write_leaves: { (link : Self) → Self.Sink.beside link
+        ≡ record { bytes = Self.remaining link; faults = Self.read_faults link } };
 
     /// The references of the source are those of the sink.
     ghost one_place: { (link : Self) → Self.Source.references link ≡ Self.Sink.references link };
@@ -32,7 +34,10 @@ impl<I: Source, O: Sink> Source for Both<'_, I, O> {
 
     ghost read_faults = { λ both. I.read_faults both.input.now };
 
-    ghost beside = { λ both. record { bytes = O.held both.out.now; faults = O.write_faults both.out.now } };
+    ghost beside = { λ both. record {
+      bytes = O.held both.out.now;
+      faults = O.write_faults both.out.now;
+    } };
 
     ghost references = { λ both. both.input.ghost_name ∷ both.out.ghost_name ∷ [] };
 
@@ -46,7 +51,10 @@ impl<I: Source, O: Sink> Sink for Both<'_, I, O> {
 
     ghost write_faults = { λ both. O.write_faults both.out.now };
 
-    ghost beside = { λ both. record { bytes = I.remaining both.input.now; faults = I.read_faults both.input.now } };
+    ghost beside = { λ both. record {
+      bytes = I.remaining both.input.now;
+      faults = I.read_faults both.input.now;
+    } };
 
     ghost references = { λ both. both.input.ghost_name ∷ both.out.ghost_name ∷ [] };
 

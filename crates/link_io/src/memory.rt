@@ -1,10 +1,10 @@
 //! Sources, sinks and links in memory, which tell all: their bytes, and which of their calls fail.
 
-ghost use Rattle.std.specs.Prelude.{◌≡◌, ℕ, ◌+◌, ◌-◌, ◌<◌, ◌≤◌, ◌↔◌, ◌⊎◌, ◌++◌, [], length, take, drop, min, IfOk, IfSome, OnOk, OnErr, IsTrue, IsErr, None};
+ghost use Rattle.std.specs.Prelude.{◌≡◌, ◌+◌, ◌-◌, ◌<◌, ◌≤◌, ◌↔◌, ◌++◌, [], length, take, drop, min, OnErr, IsErr};
 ghost use Rattle.plain_data.specs.Causes.{HasCause};
 ghost use Rattle.plain_data.specs.Counts.{NextFails, called, one_more};
 ghost use Rattle.link_io.specs.Memory.{Reads, Writes, held_of, remaining_of, stop_of};
-ghost use Rattle.link_io.specs.Streams.{Takes, Adds};
+ghost use Rattle.link_io.specs.Streams.{ReadsInto, WritesFrom};
 
 use crate::link::Link;
 use crate::sink::Sink;
@@ -67,20 +67,11 @@ impl Source for MemSource {
 
     ghost read_faults = { λ source. source.faults };
 
-    ghost beside = { λ _. record { bytes = None; faults = 0 } };
-
-    ghost references = { λ _. [] };
-
     /// Moves as many bytes as the buffer takes, up to the next cut or the end. It fails exactly where its
     /// number is one of those that fail, or 2 ^ 64 - 1. What stands behind the bytes in the buffer stays.
     fn read(&mut self, buf: &mut [u8]) -> Result<usize, Failed>
         ensures reads { Reads self.old self.new buf.old buf.new result }
-
-        // What every source says.
-        ensures count { IfOk result (λ n. n ≤ length buf.new) }
-        ensures taken { IfOk result (λ n. Takes (remaining_of self.old) (take n buf.new) (remaining_of self.new)) }
-        ensures end { IfOk result (λ n. 0 < length buf.new → IfSome (remaining_of self.old) (λ bytes. (n ≡ 0) ↔ (bytes ≡ []))) }
-        ensures failed { OnErr result (remaining_of self.new ≡ remaining_of self.old) }
+        ensures bytes { ReadsInto (remaining_of self.old) (remaining_of self.new) buf.new result }
         ensures cause { HasCause self.old.faults self.new.faults result }
     {
         count_call(&mut self.calls, &mut self.faults)?;
@@ -148,21 +139,12 @@ impl Sink for MemSink {
 
     ghost write_faults = { λ sink. sink.faults };
 
-    ghost beside = { λ _. record { bytes = None; faults = 0 } };
-
-    ghost references = { λ _. [] };
-
     /// Takes the piece, or as many of its first bytes as one write takes. It fails where its number is one
     /// of those that fail, or 2 ^ 64 - 1; else only where the bytes that are held have to grow and find no
     /// memory, which is a counted fault as well.
     fn write(&mut self, piece: &[u8]) -> Result<usize, Failed>
         ensures writes { Writes self.old self.new piece.now result }
-
-        // What every sink says.
-        ensures count { IfOk result (λ n. n ≤ length piece.now) }
-        ensures progress { IfOk result (λ n. 0 < length piece.now → 0 < n) }
-        ensures added { IfOk result (λ n. Adds (held_of self.old) (take n piece.now) (held_of self.new)) }
-        ensures failed { OnErr result (held_of self.new ≡ held_of self.old) }
+        ensures bytes { WritesFrom (held_of self.old) (held_of self.new) piece.now result }
         ensures cause { HasCause self.old.faults self.new.faults result }
     {
         count_call(&mut self.calls, &mut self.faults)?;
@@ -211,20 +193,17 @@ impl Source for MemLink {
 
     ghost read_faults = { λ link. link.source.faults };
 
-    ghost beside = { λ link. record { bytes = held_of link.sink; faults = link.sink.faults } };
-
-    ghost references = { λ _. [] };
+    ghost beside = { λ link. record {
+      bytes = held_of link.sink;
+      faults = link.sink.faults;
+    } };
 
     /// Reads from the link's source, and leaves its sink.
     fn read(&mut self, buf: &mut [u8]) -> Result<usize, Failed>
         ensures reads { Reads self.old.source self.new.source buf.old buf.new result }
         ensures sink { self.new.sink ≡ self.old.sink }
-
-        // What every source says.
-        ensures count { IfOk result (λ n. n ≤ length buf.new) }
-        ensures taken { IfOk result (λ n. Takes (remaining_of self.old.source) (take n buf.new) (remaining_of self.new.source)) }
-        ensures end { IfOk result (λ n. 0 < length buf.new → IfSome (remaining_of self.old.source) (λ bytes. (n ≡ 0) ↔ (bytes ≡ []))) }
-        ensures failed { OnErr result (remaining_of self.new.source ≡ remaining_of self.old.source) }
+        ensures bytes { ReadsInto (remaining_of self.old.source) (remaining_of self.new.source)
+            buf.new result }
         ensures cause { HasCause self.old.source.faults self.new.source.faults result }
     {
         self.source.read(buf)
@@ -236,20 +215,16 @@ impl Sink for MemLink {
 
     ghost write_faults = { λ link. link.sink.faults };
 
-    ghost beside = { λ link. record { bytes = remaining_of link.source; faults = link.source.faults } };
-
-    ghost references = { λ _. [] };
+    ghost beside = { λ link. record {
+      bytes = remaining_of link.source;
+      faults = link.source.faults;
+    } };
 
     /// Writes to the link's sink, and leaves its source.
     fn write(&mut self, piece: &[u8]) -> Result<usize, Failed>
         ensures writes { Writes self.old.sink self.new.sink piece.now result }
         ensures source { self.new.source ≡ self.old.source }
-
-        // What every sink says.
-        ensures count { IfOk result (λ n. n ≤ length piece.now) }
-        ensures progress { IfOk result (λ n. 0 < length piece.now → 0 < n) }
-        ensures added { IfOk result (λ n. Adds (held_of self.old.sink) (take n piece.now) (held_of self.new.sink)) }
-        ensures failed { OnErr result (held_of self.new.sink ≡ held_of self.old.sink) }
+        ensures bytes { WritesFrom (held_of self.old.sink) (held_of self.new.sink) piece.now result }
         ensures cause { HasCause self.old.sink.faults self.new.sink.faults result }
     {
         self.sink.write(piece)
@@ -284,10 +259,12 @@ fn count_call(calls: &mut NumberedCalls, faults: &mut FaultCount) -> Result<(), 
 #[tactic(auto, using(crate::proofs::Stops::moved))]
 fn move_bytes(bytes: &[u8], position: usize, cuts: &[u64], buf: &mut [u8]) -> usize
     requires { position ≤ length bytes.now }
-    ensures count { result ≡ min (length buf.old) (stop_of position cuts.now (length bytes.now) - position) }
+    ensures count { result
+        ≡ min (length buf.old) (stop_of position cuts.now (length bytes.now) - position) }
     ensures moved { buf.new ≡ take result (drop position bytes.now) ++ drop result buf.old }
     ensures within { position + result ≤ length bytes.now }
-    ensures rest { drop position bytes.now ≡ take result buf.new ++ drop (position + result) bytes.now }
+    ensures rest { drop position bytes.now
+        ≡ take result buf.new ++ drop (position + result) bytes.now }
     ensures end { 0 < length buf.old → ((result ≡ 0) ↔ (drop position bytes.now ≡ [])) }
 {
     let count = count_to_stop(position, cuts, bytes.len(), buf.len());

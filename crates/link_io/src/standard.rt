@@ -1,10 +1,15 @@
-//! The standard streams of a program. What they hold is told nowhere: here is the edge that a proof trusts.
+//! The standard streams of a program. What they hold is told nowhere: here is the edge that a proof
+//! trusts, and it decides nothing but what [`read_from`] and [`write_to`] say.
 
-ghost use Rattle.std.specs.Prelude.{◌≡◌, [], None};
+ghost use Rattle.std.specs.Prelude.{◌≡◌, ◌<◌, length, IfOk, None};
+ghost use Rattle.std.specs.Io.{ReadsAtMost, WritesAtMost};
+ghost use Rattle.std.specs.Io.KnownBytes.{ReadConsumes, WriteAppends};
+ghost use Rattle.link_io.specs.Attempts.{IsAttempt};
 
 use crate::sink::Sink;
 use crate::source::Source;
 use plain_data::{Failed, FaultCount};
+use std::io;
 use std::io::{ErrorKind, Read, Write};
 
 /// Standard input, as the runtime reads it.
@@ -31,21 +36,13 @@ impl<R: Input> Source for StdSource<R> {
 
     ghost read_faults = { λ source. source.faults };
 
-    ghost beside = { λ _. record { bytes = None; faults = 0 } };
-
-    ghost references = { λ _. [] };
-
     /// Reads again where a signal interrupts the read, and counts every other error.
     fn read(&mut self, buf: &mut [u8]) -> Result<usize, Failed> {
-        for _ in 0..u64::MAX {
-            match self.reader.read(buf) {
-                Ok(count) => return Ok(count),
-                Err(error) if error.kind() == ErrorKind::Interrupted => {}
-                Err(_) => break,
-            }
+        let read = read_from(&mut self.reader, buf);
+        if read.is_err() {
+            self.faults.add_one();
         }
-        self.faults.add_one();
-        Err(Failed)
+        read
     }
 }
 
@@ -73,22 +70,65 @@ impl<R: Print> Sink for StdSink<R> {
 
     ghost write_faults = { λ sink. sink.faults };
 
-    ghost beside = { λ _. record { bytes = None; faults = 0 } };
-
-    ghost references = { λ _. [] };
-
-    /// Writes again where a signal interrupts the write, and counts every other error, and a write of no
-    /// byte of a piece that has some.
+    /// Writes again where a signal interrupts the write, and counts every other error, and a write of
+    /// no byte of a piece that has some.
     fn write(&mut self, piece: &[u8]) -> Result<usize, Failed> {
-        for _ in 0..u64::MAX {
-            match self.rt.write_some(piece) {
-                Ok(0) if !piece.is_empty() => break,
-                Ok(count) => return Ok(count),
-                Err(error) if error.kind() == ErrorKind::Interrupted => {}
-                Err(_) => break,
-            }
+        let written = write_to(&mut io::writer(&self.rt), piece);
+        if written.is_err() {
+            self.faults.add_one();
         }
-        self.faults.add_one();
-        Err(Failed)
+        written
     }
+}
+
+/// What one call of a stream of the standard library came to.
+#[derive(Clone, Copy)]
+pub(crate) enum Attempt {
+    Moved(usize),
+    Interrupted,
+    Failed,
+}
+
+/// An error is a failure unless a signal interrupted the call.
+pub(crate) fn attempt_of(came: io::Result<usize>) -> Attempt
+    ensures { IsAttempt came result }
+{
+    match came {
+        Ok(count) => Attempt::Moved(count),
+        Err(error) if error.kind() == ErrorKind::Interrupted => Attempt::Interrupted,
+        Err(_) => Attempt::Failed,
+    }
+}
+
+/// Reads once that counts: again where a signal interrupts the read.
+pub(crate) fn read_from<R: Read>(reader: &mut R, buf: &mut [u8]) -> Result<usize, Failed>
+    ensures count { ReadsAtMost result buf.new }
+    ensures bytes { ReadConsumes (R.remaining reader.old) (R.remaining reader.new) result buf.new }
+{
+    for _ in 0..u64::MAX {
+        match attempt_of(reader.read(buf)) {
+            Attempt::Moved(count) => return Ok(count),
+            Attempt::Interrupted => {}
+            Attempt::Failed => return Err(Failed),
+        }
+    }
+    Err(Failed)
+}
+
+/// Writes once that counts: again where a signal interrupts the write. A write of no byte of a piece
+/// that has some is a failure.
+pub(crate) fn write_to<W: Write>(writer: &mut W, piece: &[u8]) -> Result<usize, Failed>
+    ensures count { WritesAtMost result piece.now }
+    ensures progress { IfOk result (λ n. 0 < length piece.now → 0 < n) }
+    ensures bytes { WriteAppends (W.contents writer.old) (W.contents writer.new) result piece.now }
+{
+    for _ in 0..u64::MAX {
+        match attempt_of(writer.write(piece)) {
+            Attempt::Moved(0) if !piece.is_empty() => return Err(Failed),
+            Attempt::Moved(count) => return Ok(count),
+            Attempt::Interrupted => {}
+            Attempt::Failed => return Err(Failed),
+        }
+    }
+    Err(Failed)
 }

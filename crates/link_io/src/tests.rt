@@ -1,13 +1,14 @@
-ghost use Rattle.std.specs.Prelude.{◌≡◌, ℕ, ◌≤◌, List, OnOk, OnErr};
-ghost use Rattle.plain_data.specs.Causes.{Rose};
+ghost use Rattle.std.specs.Prelude.{◌≡◌, ℕ, ◌≤◌, List, IfOk, OnOk};
+ghost use Rattle.plain_data.specs.Causes.{IsCaused};
 ghost use Rattle.link_io.specs.Streams.{Takes, Adds};
 
+use super::standard::{read_from, write_to};
 use super::*;
 use plain_data::Failed;
 use std::alloc::{AllocError, Allocator, Global};
 use std::fmt::Display;
 use std::io;
-use std::io::{BufRead, Lines};
+use std::io::{BufRead, ErrorKind, Lines, Read, Write};
 use std::test::Fail;
 
 // Why a test's own session over a link ended.
@@ -19,11 +20,13 @@ enum End {
 
 // What code over any link knows with no second look: a read and a write each change their own side alone.
 fn echo<L: Link>(link: &mut L) -> Result<(), End>
-    ensures moved { OnOk result ((bytes : List ℕ) × Takes (L.remaining link.old) bytes (L.remaining link.new) × Adds (L.held link.old) bytes (L.held link.new)) }
-    ensures read { result ≡ Err End.ReadFault → Rose (L.read_faults link.old) (L.read_faults link.new) }
+    ensures moved { OnOk result ((bytes : List ℕ) × Takes (L.remaining link.old) bytes (L.remaining link.new)
+        × Adds (L.held link.old) bytes (L.held link.new)) }
+    ensures read { IsCaused (L.read_faults link.old) (L.read_faults link.new)
+        (result ≡ Err End.ReadFault) }
     ensures nothing_written { result ≡ Err End.ReadFault → L.held link.new ≡ L.held link.old }
-    ensures write { result ≡ Err End.WriteFault → Rose (L.write_faults link.old) (L.write_faults link.new) }
-    ensures later { L.write_faults link.old ≤ L.write_faults link.new }
+    ensures write { IsCaused (L.write_faults link.old) (L.write_faults link.new)
+        (result ≡ Err End.WriteFault) }
     ensures same_references { L.Source.references link.new ≡ L.Source.references link.old }
 {
     let mut buf = [0; 4];
@@ -38,9 +41,12 @@ fn echo<L: Link>(link: &mut L) -> Result<(), End>
 
 // What whoever lent the two parts of a link knows of them afterwards.
 fn echo_between<I: Source, O: Sink>(input: &mut I, out: &mut O) -> Result<(), End>
-    ensures moved { OnOk result ((bytes : List ℕ) × Takes (I.remaining input.old) bytes (I.remaining input.new) × Adds (O.held out.old) bytes (O.held out.new)) }
-    ensures read { result ≡ Err End.ReadFault → Rose (I.read_faults input.old) (I.read_faults input.new) }
-    ensures write { result ≡ Err End.WriteFault → Rose (O.write_faults out.old) (O.write_faults out.new) }
+    ensures moved { OnOk result ((bytes : List ℕ) × Takes (I.remaining input.old) bytes (I.remaining input.new)
+        × Adds (O.held out.old) bytes (O.held out.new)) }
+    ensures read { IsCaused (I.read_faults input.old) (I.read_faults input.new)
+        (result ≡ Err End.ReadFault) }
+    ensures write { IsCaused (O.write_faults out.old) (O.write_faults out.new)
+        (result ≡ Err End.WriteFault) }
 {
     echo(&mut Both { input, out })
 }
@@ -187,6 +193,74 @@ impl Print for Canned {
     fn write_some(&self, _: &[u8]) -> io::Result<usize> {
         Ok(0)
     }
+}
+
+// What the calls of a stream come to, one after another: a count of bytes, or an error.
+#[derive(Drop)]
+struct Scripted {
+    calls: Vec<Result<usize, ErrorKind>>,
+    next: usize,
+}
+
+impl Scripted {
+    fn new(alloc: Global, calls: &[Result<usize, ErrorKind>]) -> Result<Scripted, AllocError> {
+        Ok(Scripted {
+            calls: Vec::from_slice(alloc, calls)?,
+            next: 0,
+        })
+    }
+
+    fn next_call(&mut self, room: usize) -> io::Result<usize>
+        ensures { IfOk result (λ count. count ≤ room) }
+    {
+        let call = self.calls.get(self.next).copied().unwrap_or(Ok(0));
+        self.next = self.next.saturating_add(1);
+        match call {
+            Ok(count) => Ok(count.min(room)),
+            Err(kind) => Err(io::Error::from(kind)),
+        }
+    }
+}
+
+impl Read for Scripted {
+    fn read(&mut self, buf: &mut [u8]) -> io::Result<usize> {
+        self.next_call(buf.len())
+    }
+}
+
+impl Write for Scripted {
+    fn write(&mut self, piece: &[u8]) -> io::Result<usize> {
+        self.next_call(piece.len())
+    }
+
+    fn flush(&mut self) -> io::Result<()> {
+        Ok(())
+    }
+}
+
+#[test]
+fn a_signal_is_no_fault_and_an_error_is_one(rt: HostRuntime) -> Result<(), Fail> {
+    let calls = [
+        Err(ErrorKind::Interrupted),
+        Err(ErrorKind::Interrupted),
+        Ok(1),
+        Err(ErrorKind::BrokenPipe),
+        Ok(2),
+        Ok(0),
+    ];
+    let mut reader = Scripted::new(rt.alloc(), calls.as_slice())?;
+    let mut writer = Scripted::new(rt.alloc(), calls.as_slice())?;
+    for (read, written) in [
+        (Ok(1), Ok(1)),
+        (Err(Failed), Err(Failed)),
+        (Ok(2), Ok(2)),
+        (Ok(0), Err(Failed)),
+    ] {
+        assert_eq!(rt; read_from(&mut reader, &mut [0; 2]), read);
+        assert_eq!(rt; write_to(&mut writer, b"ab"), written);
+    }
+    assert_eq!(rt; write_to(&mut writer, b""), Ok(0));
+    Ok(())
 }
 
 #[test]

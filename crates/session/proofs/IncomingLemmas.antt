@@ -7,7 +7,7 @@ use Rattle.http_wire.specs.Reading.{Reading, Answers}
 use Rattle.http_wire.specs.Requests.{HasGiven}
 use Rattle.http_wire.proofs.StreamLemmas.{HasGiven-append}
 use Rattle.link_io.specs.Streams.{Takes}
-use Rattle.link_io.proofs.StreamLemmas.{Takes-then, Takes-none}
+use Rattle.link_io.proofs.Laws.{Takes-then, Takes-none}
 
 -- some bytes were read and fed, and no request was given of them yet
 pub record HasHeard (left left_after : Option (List ℕ)) (old new : Reading) : Type 0 where

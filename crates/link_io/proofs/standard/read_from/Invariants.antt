@@ -1,0 +1,6 @@
+-- A read that a signal interrupts takes no byte.
+use Rattle.std.specs.Io.KnownBytes.{Keeps}
+use Rattle.link_io.proofs.standard.read_from.Given as goal
+
+abbrev pub invariant-loop : goal.invariant-loop
+invariant-loop g l = Keeps (g.R.Read.remaining l.initial.reader) (g.R.Read.remaining l.reader)
