@@ -8,18 +8,13 @@ use Rattle.std.proofs.lemmas.List.Elements.{All-nil, All-push}
 use Rattle.std.proofs.lemmas.List.Sums.{fold_push}
 use Rattle.std.proofs.lemmas.Slice.Eq.{bytes_eq-Decides}
 use Prim.Native.Nat.{zero, suc}
-use Rattle.plain_data.specs.Causes.{Rose, RoseBy}
+use Rattle.plain_data.specs.Causes.{Rose}
 use Rattle.tree_io.specs.Path.{Belongs, HasSourcePaths, IsRising, paths_of}
 use Rattle.tree_io.specs.Sources.{Contents, Sources, IsFrom, IsScannedFrom, IsSources, bytes_at, entry_of, is_unread, unread_count, IsReadable}
 use Rattle.tree_io.specs.Scans.{under_way, OpensScan, IsKnown, IsListed, IsReadAs}
+use Rattle.tree_io.specs.Entries.{IsReadSoFar}
 use Rattle.tree_io.specs.declared.tree.Entry.{Entry}
 use Rattle.tree_io.specs.declared.tree.Entry.TheVariants.{Bytes, Large, Unread}
-
--- the sources that reads of these paths have given, while the count of read faults went from before to now
-pub record IsReadSoFar (scans : Option (List Contents)) (paths : List (List ℕ)) (sources : Sources) (before now : ℕ) : Type 0 where
-  pub same_paths : paths_of sources ≡ paths
-  pub entries : IfSome scans (λ told. All (IsFrom (under_way told)) sources)
-  pub few_unread : RoseBy (unread_count sources) before now
 
 -- before the first read
 pub IsReadSoFar-none : (scans : Option (List Contents)) (before now : ℕ) → before ≤ now → IsReadSoFar scans [] [] before now

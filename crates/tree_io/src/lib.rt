@@ -4,6 +4,7 @@
 //! contents of the scans opened so far, where a tree tells them, and of two counts of faults.
 #![tactic(auto)]
 
+mod entries;
 mod files;
 mod folder;
 mod memory;
@@ -11,6 +12,7 @@ mod path;
 mod tree;
 mod walk;
 
+pub use entries::read_entry;
 pub use folder::FsTree;
 pub use memory::MemTree;
 pub use path::{MAX_PATH_BYTES, belongs};

@@ -1,5 +1,5 @@
 use Rattle.std.proofs.Common.{◌≡◌, take}
-use Rattle.tree_io.proofs.Reading.{IsReadSoFar}
+use Rattle.tree_io.specs.Entries.{IsReadSoFar}
 use Rattle.tree_io.proofs.tests.scan.Given as goal
 
 abbrev pub invariant-loop-path : goal.invariant-loop-path

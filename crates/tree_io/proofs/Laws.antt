@@ -1,0 +1,119 @@
+-- Laws of what is read of a scan, for the crates above.
+use Rattle.std.proofs.Common.{◌≡◌, ℕ, ◌+◌, ◌<◌, ◌≤◌, Bool, true, false, cond, List, [], ◌∷◌, ◌++◌, length, get_or, Option, Some, None, IfSome, IsSome, All, map, refl, ap, ◌∙◌, inr, arith}
+use Rattle.std.specs.Prelude.{IsSomeAnd, unwrap_or, nat_lt}
+use Rattle.std.specs.Option.{ForSome}
+use Rattle.std.proofs.lemmas.List.{map-append}
+use Rattle.std.proofs.lemmas.List.Elements.{All-nil, All-cons, All-append, All-head, All-tail}
+use Rattle.std.proofs.lemmas.List.Sums.{sum_by-append, sum_by-cons}
+use Prim.Native.Nat.{zero, suc}
+use Rattle.plain_data.specs.Causes.{RoseBy}
+use Rattle.tree_io.specs.Path.{Belongs, IsRising, paths_of}
+use Rattle.tree_io.specs.Sources.{Contents, Sources, IsFrom, bytes_at, entry_of, is_unread, unread_count}
+use Rattle.tree_io.specs.Scans.{IsKnown, IsListed, under_way}
+use Rattle.tree_io.specs.Entries.{IsReadSoFar, IsScanned}
+use Rattle.tree_io.specs.declared.tree.TheConstants.{MAX_FILE_BYTES}
+use Rattle.tree_io.specs.declared.tree.Entry.{Entry}
+use Rattle.tree_io.specs.declared.tree.Entry.TheVariants.{Bytes, Large}
+use Rattle.tree_io.proofs.Reading.{IsKnown-listed, IsReadSoFar-none, IsScannedFrom-read, IsSources-read}
+
+pub unread_count-append : (xs ys : Sources) → unread_count (xs ++ ys) ≡ unread_count xs + unread_count ys
+unread_count-append xs ys = sum_by-append (λ s. cond (is_unread s.1) 1 0) xs ys
+
+RoseBy-add : (m n a b c : ℕ) → RoseBy m a b → RoseBy n b c → RoseBy (m + n) a c
+RoseBy-add m n a b c f g = omega (arith, f, g)
+
+entries-append : (scans : Option (List Contents)) (xs ys : Sources)
+    → IfSome scans (λ told. All (IsFrom (under_way told)) xs) → IfSome scans (λ told. All (IsFrom (under_way told)) ys)
+    → IfSome scans (λ told. All (IsFrom (under_way told)) (xs ++ ys))
+entries-append None xs ys f g = tt
+entries-append (Some told) xs ys f g = All-append (IsFrom (under_way told)) xs ys f g
+
+-- before the first read
+pub IsReadSoFar-nothing : (scans : Option (List Contents)) (count : ℕ) → IsReadSoFar scans [] [] count count
+IsReadSoFar-nothing scans count = IsReadSoFar-none scans count count (omega arith)
+
+-- some paths, and then more
+pub IsReadSoFar-append : (scans : Option (List Contents)) (ps qs : List (List ℕ)) (xs ys : Sources) (a b c : ℕ)
+    → IsReadSoFar scans ps xs a b → IsReadSoFar scans qs ys b c → IsReadSoFar scans (ps ++ qs) (xs ++ ys) a c
+IsReadSoFar-append scans ps qs xs ys a b c f g = record {
+  same_paths = map-append (λ (s : List ℕ × Entry). s.0) xs ys ∙ ap (λ l. l ++ paths_of ys) f.same_paths ∙ ap (λ l. ps ++ l) g.same_paths;
+  entries = entries-append scans xs ys f.entries g.entries;
+  few_unread = rw unread_count-append (RoseBy-add (unread_count xs) (unread_count ys) a b c f.few_unread g.few_unread);
+}
+
+-- when all listed paths were read
+pub IsScanned-read : (scans : Option (List Contents)) (paths : List (List ℕ)) (sources : Sources) (before now : ℕ)
+    → All Belongs paths → IsRising paths → IsListed scans paths → IsReadSoFar scans paths sources before now → IsScanned scans sources before now
+IsScanned-read scans paths sources before now belong rising listed read = record {
+  valid = IsSources-read scans paths sources before now belong rising read;
+  told = IsScannedFrom-read scans paths sources before now belong rising listed read;
+}
+
+same_default : (xs : List (List ℕ)) (k : ℕ) (d e : List ℕ) → k < length xs → get_or xs k d ≡ get_or xs k e
+same_default [] k d e below = absurd (omega arith)
+same_default (x ∷ xs) zero d e below = refl
+same_default (x ∷ xs) (suc k) d e below = same_default xs k d e (omega arith)
+
+-- the paths that a scan lists may be read
+pub listed_are_known : (scans : Option (List Contents)) (paths : List (List ℕ)) → IsListed scans paths
+    → ForSome scans (λ told. All (λ path. IsSome (bytes_at (under_way told) path)) paths)
+listed_are_known scans paths listed told is k d below =
+    IsKnown-listed scans scans paths k (get_or paths k d) refl listed below (same_default paths k d (get_or paths k d) below) told is
+
+-- ---- what would be read of paths
+
+entry_at : Contents → List ℕ → Entry
+entry_at contents path = entry_of (unwrap_or (bytes_at contents path) [])
+
+all_at : Contents → List (List ℕ) → Sources
+all_at contents paths = map (λ path. (path, entry_at contents path)) paths
+
+paths_of-all_at : (contents : Contents) (paths : List (List ℕ)) → paths_of (all_at contents paths) ≡ paths
+unfolding all_at
+paths_of-all_at contents [] = refl
+paths_of-all_at contents (path ∷ paths) = ap (λ l. path ∷ l) (paths_of-all_at contents paths)
+
+entry_of-read : (t : Bool) (bytes : List ℕ) → is_unread (cond t Large (Bytes bytes)) ≡ false
+entry_of-read true bytes = refl
+entry_of-read false bytes = refl
+
+unread_count-all_at : (contents : Contents) (paths : List (List ℕ)) → unread_count (all_at contents paths) ≡ 0
+unfolding all_at entry_at
+unread_count-all_at contents [] = refl
+unread_count-all_at contents (path ∷ paths) =
+    sum_by-cons (λ s. cond (is_unread s.1) 1 0) (path, entry_of (unwrap_or (bytes_at contents path) [])) (all_at contents paths)
+    ∙ (let bytes = unwrap_or (bytes_at contents path) [] in
+    rw (entry_of-read (nat_lt MAX_FILE_BYTES (length bytes)) bytes) (omega (arith, unread_count-all_at contents paths)))
+
+from_some : (found : Option (List ℕ)) → IsSome found → IsSomeAnd found (λ bytes. entry_of (unwrap_or found []) ≡ entry_of bytes)
+from_some None h = cc
+from_some (Some bytes) h = refl
+
+IsFrom-all_at : (contents : Contents) (paths : List (List ℕ)) → All (λ path. IsSome (bytes_at contents path)) paths → All (IsFrom contents) (all_at contents paths)
+unfolding all_at entry_at
+IsFrom-all_at contents [] h = All-nil (IsFrom contents)
+IsFrom-all_at contents (path ∷ paths) h =
+    All-cons (IsFrom contents) (path, entry_of (unwrap_or (bytes_at contents path) [])) (all_at contents paths)
+    (inr (from_some (bytes_at contents path) (All-head (λ q. IsSome (bytes_at contents q)) path paths h)))
+    (IsFrom-all_at contents paths (All-tail (λ q. IsSome (bytes_at contents q)) path paths h))
+
+-- known paths have sources that reads can give
+pub IsReadSoFar-known : (scans : Option (List Contents)) (paths : List (List ℕ)) (before now : ℕ) → before ≤ now
+    → ForSome scans (λ told. All (λ path. IsSome (bytes_at (under_way told) path)) paths)
+    → (sources : Sources) × IsReadSoFar scans paths sources before now
+IsReadSoFar-known None paths before now later known = (
+  all_at [] paths,
+  record {
+    same_paths = paths_of-all_at [] paths;
+    entries = tt;
+    few_unread = omega (arith, unread_count-all_at [] paths);
+  },
+)
+IsReadSoFar-known (Some told) paths before now later known = (
+  all_at (under_way told) paths,
+  record {
+    same_paths = paths_of-all_at (under_way told) paths;
+    entries = IsFrom-all_at (under_way told) paths (known told refl);
+    few_unread = omega (arith, unread_count-all_at (under_way told) paths);
+  },
+)
