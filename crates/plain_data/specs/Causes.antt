@@ -24,13 +24,6 @@ pub record HasCause {T E : Type 0} (before now : ℕ) (result : Result T E) : Ty
   pub failed : OnErr result (Rose before now)
   pub kept : OnOk result (now ≡ before)
 
--- the same of a call that ended so or otherwise: the count hasn't fallen, it rose where the call failed, and else it
--- is as it was
-pub record IsCaused (before now : ℕ) (failed : Type 0) : Type 0 where
-  pub later : before ≤ now
-  pub rose : failed → Rose before now
-  pub kept : ¬ failed → now ≡ before
-
 -- the same of a call that may also run out of memory, which is no fault
 pub record HasIoCause {T : Type 0} (before now : ℕ) (result : Result T IoFail) : Type 0 where
   pub later : before ≤ now
