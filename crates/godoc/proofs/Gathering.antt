@@ -1,5 +1,5 @@
 -- The packages of the sources that were read so far, one source at a time.
-use Rattle.std.proofs.Common.{◌≡◌, ℕ, zero, suc, ◌+◌, ◌-◌, ◌<◌, ◌≤◌, ◌⊎◌, Bool, true, false, cond, List, [], ◌∷◌, ◌++◌, length, get_or, map, Option, Some, None, IfSome, All, string_bytes, refl, sym, ap, ◌∙◌, subst, inl, inr, ⊎_elim, arith}
+use Rattle.std.proofs.Common.{◌≡◌, ℕ, zero, suc, ◌+◌, ◌-◌, ◌<◌, ◌≤◌, ◌⊎◌, Bool, true, false, cond, List, [], ◌∷◌, ◌++◌, length, get_or, map, Option, All, string_bytes, refl, sym, ap, ◌∙◌, subst, inl, inr, ⊎_elim, arith}
 use Rattle.std.specs.Prelude.{◌↔◌, Contains, IsTrue}
 use Rattle.std.specs.BTreeSet.{BTreeSet, IsOrdered, insert_key}
 use Rattle.std.specs.List.Sorted.{IsStrictlySortedBy}
@@ -14,16 +14,17 @@ use Rattle.std.proofs.lemmas.List.{map-append}
 use Rattle.std.proofs.lemmas.List.Elements.{All-nil, All-append, Contains-append_left, Contains-push, Contains-push_cases}
 use Rattle.std.proofs.lemmas.Map.Text.{is_eq-slice_cmp}
 use Rattle.std.proofs.lemmas.Slice.Eq.{bytes_eq-Decides}
-use Rattle.plain_data.specs.Causes.{RoseBy}
 use Rattle.tree_io.specs.declared.tree.Entry.{Entry}
 use Rattle.tree_io.specs.declared.tree.Entry.TheVariants.{Bytes, Large, Unread}
-use Rattle.tree_io.specs.Path.{Belongs, IsRising, paths_of}
-use Rattle.tree_io.specs.Scans.{under_way}
-use Rattle.tree_io.specs.Sources.{Contents, Sources, IsFrom, IsSources, unread_count}
+use Rattle.tree_io.specs.Path.{Belongs, IsRising}
+use Rattle.tree_io.specs.Entries.{IsReadSoFar}
+use Rattle.tree_io.specs.Scans.{IsListed}
+use Rattle.tree_io.specs.Sources.{Contents, Sources}
+use Rattle.tree_io.proofs.Laws.{IsReadSoFar-append, IsReadSoFar-nothing, IsScanned-read}
 use Rattle.tree_io.proofs.FileMaps.{IsRising-strings}
-use Rattle.godoc.specs.Packages.{ArePackages, HasClause, HasPackage, NamesPackage, package_path}
-use Rattle.godoc.specs.Serving.{IsEdition, IsGathered}
-use Rattle.godoc.proofs.Outcomes.{IsListing, RoseBy-add, unread_count-append, IfSome-all, IfSome-one}
+use Rattle.godoc.specs.Packages.{ArePackages, HasPackageClause, HasPackage, NamesPackage, package_path}
+use Rattle.godoc.specs.Serving.{IsEdition}
+use Rattle.godoc.specs.Steps.{IsGathered}
 
 -- ---- the elements of a list
 
@@ -101,7 +102,7 @@ from_before sources more path has = record {
   is_folder = has.is_folder;
 }
 
-from_last : (sources : Sources) (file : List ℕ) (entry : Entry) → HasClause entry → HasPackage (sources ++ (file, entry) ∷ []) (package_path file)
+from_last : (sources : Sources) (file : List ℕ) (entry : Entry) → HasPackageClause entry → HasPackage (sources ++ (file, entry) ∷ []) (package_path file)
 from_last sources file (Bytes bytes) clause = record {
   file = file;
   bytes = bytes;
@@ -113,15 +114,15 @@ from_last sources file Large clause = absurd clause
 from_last sources file Unread clause = absurd clause
 
 before_or_last : (sources : Sources) (file : List ℕ) (entry : Entry) (path : List ℕ) → HasPackage (sources ++ (file, entry) ∷ []) path
-    → HasPackage sources path ⊎ (HasClause entry × (package_path file ≡ path))
+    → HasPackage sources path ⊎ (HasPackageClause entry × (package_path file ≡ path))
 before_or_last sources file entry path has =
     ⊎_elim
     (λ before. inl (record { file = has.file; bytes = has.bytes; has_file = before; names = has.names; is_folder = has.is_folder }))
-    (λ last. inr (subst HasClause (sym (ap (λ (source : List ℕ × Entry). source.1) last)) has.names, ap package_path (ap (λ (source : List ℕ × Entry). source.0) last) ∙ has.is_folder))
+    (λ last. inr (subst HasPackageClause (sym (ap (λ (source : List ℕ × Entry). source.1) last)) has.names, ap package_path (ap (λ (source : List ℕ × Entry). source.0) last) ∙ has.is_folder))
     (Contains-push_cases sources (file, entry) (has.file, Bytes has.bytes) has.has_file)
 
 -- a source more that names no package
-without_clause : (sources : Sources) (file : List ℕ) (entry : Entry) (found : List (List ℕ)) → (HasClause entry → ⊥) → ArePackages sources found
+without_clause : (sources : Sources) (file : List ℕ) (entry : Entry) (found : List (List ℕ)) → (HasPackageClause entry → ⊥) → ArePackages sources found
     → ArePackages (sources ++ (file, entry) ∷ []) found
 without_clause sources file entry found none packages = record {
   rising = packages.rising;
@@ -132,7 +133,7 @@ without_clause sources file entry found none packages = record {
 }
 
 -- a source more that names one
-with_clause : (sources : Sources) (file : List ℕ) (entry : Entry) (found more : List (List ℕ)) → HasClause entry → ArePackages sources found
+with_clause : (sources : Sources) (file : List ℕ) (entry : Entry) (found more : List (List ℕ)) → HasPackageClause entry → ArePackages sources found
     → IsRising more → ((path : List ℕ) → Contains more path ↔ (Contains found path ⊎ (package_path file ≡ path)))
     → ArePackages (sources ++ (file, entry) ∷ []) more
 with_clause sources file entry found more clause packages rising adds = record {
@@ -147,13 +148,11 @@ with_clause sources file entry found more clause packages rising adds = record {
 -- ---- while paths are read
 
 gathered_more : (scans : Option (List Contents)) (paths : List (List ℕ)) (a b c : ℕ) (found more : List (List ℕ)) (path : List ℕ) (entry : Entry)
-    (so_far : IsGathered scans paths a b found) → IfSome scans (λ told. IsFrom (under_way told) (path, entry)) → RoseBy (unread_count ((path, entry) ∷ [])) b c
+    (so_far : IsGathered scans paths a b found) → IsReadSoFar scans (path ∷ []) ((path, entry) ∷ []) b c
     → ArePackages (so_far.sources ++ (path, entry) ∷ []) more → IsGathered scans (paths ++ path ∷ []) a c more
-gathered_more scans paths a b c found more path entry so_far from few packages = record {
+gathered_more scans paths a b c found more path entry so_far read packages = record {
   sources = so_far.sources ++ (path, entry) ∷ [];
-  same_paths = map-append (λ (s : List ℕ × Entry). s.0) so_far.sources ((path, entry) ∷ []) ∙ ap (λ l. l ++ path ∷ []) so_far.same_paths;
-  entries = IfSome-all IsFrom scans so_far.sources ((path, entry) ∷ []) so_far.entries (IfSome-one IsFrom scans (path, entry) from);
-  few_unread = rw unread_count-append (RoseBy-add (unread_count so_far.sources) (unread_count ((path, entry) ∷ [])) a b c so_far.few_unread few);
+  read = IsReadSoFar-append scans paths (path ∷ []) so_far.sources ((path, entry) ∷ []) a b c so_far.read read;
   packages = packages;
 }
 
@@ -161,17 +160,11 @@ empty_rises : IsRising []
 unfolding IsStrictlySortedBy
 empty_rises = tt
 
-no_entries : (scans : Option (List Contents)) → IfSome scans (λ told. All (IsFrom (under_way told)) [])
-no_entries None = tt
-no_entries (Some told) = All-nil (IsFrom (under_way told))
-
 -- before the first path
 pub IsGathered-none : (scans : Option (List Contents)) (a : ℕ) (found : List (List ℕ)) → found ≡ [] → IsGathered scans [] a a found
 IsGathered-none scans a found none = rw none (record {
   sources = [];
-  same_paths = refl;
-  entries = no_entries scans;
-  few_unread = omega arith;
+  read = IsReadSoFar-nothing scans a;
   packages = record {
     rising = empty_rises;
     each = λ path. (λ c. absurd (contains_none path c), λ has. absurd (contains_none (has.file, Bytes has.bytes) has.has_file));
@@ -180,40 +173,28 @@ IsGathered-none scans a found none = rw none (record {
 
 -- after a file that names no package
 pub IsGathered-other : (scans : Option (List Contents)) (paths : List (List ℕ)) (a b c : ℕ) (found : List (List ℕ)) (path : List ℕ) (entry : Entry)
-    → IsGathered scans paths a b found → IfSome scans (λ told. IsFrom (under_way told) (path, entry)) → RoseBy (unread_count ((path, entry) ∷ [])) b c
-    → (HasClause entry → ⊥) → IsGathered scans (paths ++ path ∷ []) a c found
-IsGathered-other scans paths a b c found path entry so_far from few none =
-    gathered_more scans paths a b c found found path entry so_far from few (without_clause so_far.sources path entry found none so_far.packages)
+    → IsGathered scans paths a b found → IsReadSoFar scans (path ∷ []) ((path, entry) ∷ []) b c
+    → (HasPackageClause entry → ⊥) → IsGathered scans (paths ++ path ∷ []) a c found
+IsGathered-other scans paths a b c found path entry so_far read none =
+    gathered_more scans paths a b c found found path entry so_far read (without_clause so_far.sources path entry found none so_far.packages)
 
 -- after a file that names one
 pub IsGathered-package : {A : Type 0} (scans : Option (List Contents)) (paths : List (List ℕ)) (a b c : ℕ) (old new : BTreeSet (String A)) (key : String A) (path : List ℕ) (entry : Entry)
-    → IsGathered scans paths a b (map string_bytes old.keys) → IfSome scans (λ told. IsFrom (under_way told) (path, entry)) → RoseBy (unread_count ((path, entry) ∷ [])) b c
-    → HasClause entry → string_bytes key ≡ package_path path → new.keys ≡ insert_key string_cmp old.keys key → IsOrdered string_cmp new
+    → IsGathered scans paths a b (map string_bytes old.keys) → IsReadSoFar scans (path ∷ []) ((path, entry) ∷ []) b c
+    → HasPackageClause entry → string_bytes key ≡ package_path path → new.keys ≡ insert_key string_cmp old.keys key → IsOrdered string_cmp new
     → IsGathered scans (paths ++ path ∷ []) a c (map string_bytes new.keys)
-IsGathered-package {A = A} scans paths a b c old new key path entry so_far from few clause is_path keys ordered =
+IsGathered-package {A = A} scans paths a b c old new key path entry so_far read clause is_path keys ordered =
     let adds : (wanted : List ℕ) → Contains (map string_bytes new.keys) wanted ↔ (Contains (map string_bytes old.keys) wanted ⊎ (package_path path ≡ wanted)) =
     subst (λ (new_keys : List (String A)). AddsPath (map string_bytes old.keys) (package_path path) (map string_bytes new_keys)) (sym keys)
     (subst (λ (new_path : List ℕ). AddsPath (map string_bytes old.keys) new_path (map string_bytes (insert_key string_cmp old.keys key))) is_path (insert_adds old.keys key)) in
-    gathered_more scans paths a b c (map string_bytes old.keys) (map string_bytes new.keys) path entry so_far from few
+    gathered_more scans paths a b c (map string_bytes old.keys) (map string_bytes new.keys) path entry so_far read
     (with_clause so_far.sources path entry (map string_bytes old.keys) (map string_bytes new.keys) clause so_far.packages (IsRising-strings new.keys ordered) adds)
 
 -- when all listed paths were read
 pub IsEdition-gathered : (scans scans' : Option (List Contents)) (paths : List (List ℕ)) (a a' b : ℕ) (found : List (List ℕ))
-    → scans' ≡ scans → a' ≡ a → IsListing scans paths → All Belongs paths → IsRising paths → IsGathered scans paths a b found → IsEdition scans' a' b found
-IsEdition-gathered None scans' paths a a' b found e f listed belong rising g = rw (e, f) (record {
+    → scans' ≡ scans → a' ≡ a → IsListed scans paths → All Belongs paths → IsRising paths → IsGathered scans paths a b found → IsEdition scans' a' b found
+IsEdition-gathered scans scans' paths a a' b found e f listed belong rising g = rw (e, f) (record {
   sources = g.sources;
-  valid = record { belong = rw g.same_paths belong; rising = rw g.same_paths rising };
-  scanned = tt;
-  packages = g.packages;
-})
-IsEdition-gathered (Some told) scans' paths a a' b found e f listed belong rising g = rw (e, f) (record {
-  sources = g.sources;
-  valid = record { belong = rw g.same_paths belong; rising = rw g.same_paths rising };
-  scanned = record {
-    valid = record { belong = rw g.same_paths belong; rising = rw g.same_paths rising };
-    same_paths = g.same_paths ∙ listed;
-    entries = g.entries;
-    few_unread = g.few_unread;
-  };
+  scanned = IsScanned-read scans paths g.sources a b belong rising listed g.read;
   packages = g.packages;
 })

@@ -1,5 +1,5 @@
--- The text of `find`: a line for each identifier with a name. This is the project's own.
-use Rattle.std.specs.Prelude.{◌≡◌, ℕ, Bool, true, false, ◌&&◌, ◌⊎◌, List, [], ◌∷◌, ◌++◌, slice_range, decimal, codes, if◌then◌else◌, length, ◌≤◌, ⊤}
+-- Cited by public clauses: the text of `find`, a line for each identifier with a name. The project's own.
+use Rattle.std.specs.Prelude.{◌≡◌, ℕ, Bool, true, false, ◌&&◌, ◌⊎◌, List, [], ◌∷◌, ◌++◌, slice_range, decimal, codes, if◌then◌else◌, ◌≤◌}
 use Rattle.std.specs.List.{flat_map}
 use Rattle.std.specs.Str.{bytes_eq}
 use Rattle.go_ast.specs.declared.token.Token.{Token}
@@ -10,7 +10,7 @@ use Rattle.go_ast.specs.Position.{line_of, column_of}
 use Rattle.go_ast.specs.Reading.{Reads}
 use Rattle.go_scanner.specs.Answers.{IsRead}
 use Rattle.tree_io.specs.declared.tree.Entry.{Entry}
-use Rattle.tree_io.specs.declared.tree.Entry.TheVariants.{Bytes, Large, Unread}
+use Rattle.tree_io.specs.declared.tree.Entry.TheVariants.{Bytes}
 use Rattle.tree_io.specs.Sources.{Sources}
 
 abbrev pub is_identifier : TokenKind → Bool
@@ -52,8 +52,7 @@ FindsIn name path bytes lines =
 -- the lines of one source: none where its bytes aren't there
 abbrev pub FindsAt : List ℕ → List ℕ → Entry → List ℕ → Type 0
 FindsAt name path (Bytes bytes) lines = FindsIn name path bytes lines
-FindsAt name path Large lines = lines ≡ []
-FindsAt name path Unread lines = lines ≡ []
+FindsAt name path entry lines = lines ≡ []
 
 -- the text of `find`: the lines of one source after another
 abbrev pub IsFindText : List ℕ → Sources → List ℕ → Type 0
@@ -64,9 +63,3 @@ IsFindText name (source ∷ sources) text =
 -- the span of a token is in order, and within so many bytes
 abbrev pub IsWithin : ℕ → Token → Type 0
 IsWithin size token = (token.span.start ≤ token.span.end) × (token.span.end ≤ size)
-
--- the bytes of a file that a scan can take
-abbrev pub IsSmall : Entry → Type 0
-IsSmall (Bytes bytes) = length bytes ≤ 4194304
-IsSmall Large = ⊤
-IsSmall Unread = ⊤

@@ -6,4 +6,5 @@ pub mod Position
 pub mod Replies
 pub mod Serving
 pub mod Status
+pub mod Steps
 pub mod Words

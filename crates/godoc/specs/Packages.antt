@@ -1,5 +1,5 @@
--- The packages of a tree, as the paths of their folders. This is the project's own, but for the package clause (The
--- Go Programming Language Specification, "Package clause").
+-- Cited by public clauses: the packages of a tree, as the paths of their folders. The project's own, but for the
+-- package clause (The Go Programming Language Specification, "Package clause").
 use Rattle.std.specs.Prelude.{◌≡◌, ℕ, Bool, true, false, ◌&&◌, not, IsTrue, ◌↔◌, List, [], ◌∷◌, Contains, slice_range, codes}
 use Rattle.std.specs.Option.{option_map_or}
 use Rattle.std.specs.Path.{slash, rsplit_once}
@@ -10,7 +10,7 @@ use Rattle.go_ast.specs.declared.token.TokenKind.TheVariants.{Ident, Keyword, In
 use Rattle.go_ast.specs.declared.token.Comment.{Comment}
 use Rattle.go_ast.specs.Reading.{Reads}
 use Rattle.tree_io.specs.declared.tree.Entry.{Entry}
-use Rattle.tree_io.specs.declared.tree.Entry.TheVariants.{Bytes, Large, Unread}
+use Rattle.tree_io.specs.declared.tree.Entry.TheVariants.{Bytes}
 use Rattle.tree_io.specs.Path.{IsRising}
 use Rattle.tree_io.specs.Sources.{Sources, IsSources}
 use Rattle.godoc.specs.Find.{is_identifier}
@@ -71,8 +71,7 @@ pub record ArePackages (sources : Sources) (paths : List (List ℕ)) : Type 0 wh
 abbrev pub ArePackagesOfSome : List (List ℕ) → Type 0
 ArePackagesOfSome paths = ∥ ((sources : Sources) × IsSources sources × ArePackages sources paths) ∥₁
 
--- what reading a file gave of it: whether it names a package
-abbrev pub HasClause : Entry → Type 0
-HasClause (Bytes bytes) = NamesPackage bytes
-HasClause Large = ⊥
-HasClause Unread = ⊥
+-- an entry that names a package
+abbrev pub HasPackageClause : Entry → Type 0
+HasPackageClause (Bytes bytes) = NamesPackage bytes
+HasPackageClause entry = ⊥

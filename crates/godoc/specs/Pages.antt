@@ -1,4 +1,4 @@
--- The pages, byte for byte. Their wording is the project's own; how a byte is escaped in an address is RFC 3986,
+-- Cited by public clauses: the pages, byte for byte. Their wording is the project's own; how a byte is escaped in an address is RFC 3986,
 -- section 2.1.
 use Rattle.std.specs.Prelude.{ℕ, Bool, ◌||◌, ◌==◌, List, [], ◌∷◌, ◌++◌, codes, if◌then◌else◌}
 use Rattle.std.specs.Char.{is_ascii_alphanumeric}

@@ -1,15 +1,14 @@
--- What `answer` did. This is the project's own.
-use Rattle.std.specs.Prelude.{◌≡◌, ◌≢◌, ℕ, ◌↔◌, All, Bool, IsTrue, List, [], ◌∷◌, replicate, Option, IfSome, ⊤}
+-- Cited by public clauses: what `answer` did. The project's own.
+use Rattle.std.specs.Prelude.{◌≡◌, ◌≢◌, ℕ, ◌↔◌, Bool, IsTrue, List, [], ◌∷◌, replicate, Option, IfSome, ⊤}
 use Rattle.http_wire.specs.declared.request.Request.{Request}
 use Rattle.http_wire.specs.Requests.{Requests, StreamEnd}
 use Rattle.link_io.specs.Streams.{Takes, Adds}
 use Rattle.session.specs.declared.session_end.SessionEnd.{SessionEnd}
 use Rattle.session.specs.declared.session_end.SessionEnd.TheVariants as ends
 use Rattle.session.specs.Session.{IsAnswered}
-use Rattle.plain_data.specs.Causes.{RoseBy}
-use Rattle.tree_io.specs.Path.{paths_of}
-use Rattle.tree_io.specs.Sources.{Contents, Sources, IsFrom, IsSources, IsScannedFrom, unread_count}
-use Rattle.tree_io.specs.Scans.{OpensScan, under_way}
+use Rattle.tree_io.specs.Entries.{IsScanned}
+use Rattle.tree_io.specs.Scans.{OpensScan}
+use Rattle.tree_io.specs.Sources.{Contents, Sources}
 use Rattle.godoc.specs.declared.status.Status.{Status}
 use Rattle.godoc.specs.declared.status.Status.TheVariants as statuses
 use Rattle.godoc.specs.Packages.{ArePackages}
@@ -19,17 +18,8 @@ use Rattle.godoc.specs.Replies.{reply_of}
 -- count of read faults went from before to now
 pub record IsEdition (scans : Option (List Contents)) (before now : ℕ) (paths : List (List ℕ)) : Type 0 where
   pub sources : Sources
-  pub valid : IsSources sources
-  pub scanned : IfSome scans (λ told. IsScannedFrom sources (under_way told) before now)
+  pub scanned : IsScanned scans sources before now
   pub packages : ArePackages sources paths
-
--- what reading some paths of the scan under way gave: sources, of which these are the package paths
-pub record IsGathered (scans : Option (List Contents)) (paths : List (List ℕ)) (before now : ℕ) (found : List (List ℕ)) : Type 0 where
-  pub sources : Sources
-  pub same_paths : paths_of sources ≡ paths
-  pub entries : IfSome scans (λ told. All (IsFrom (under_way told)) sources)
-  pub few_unread : RoseBy (unread_count sources) before now
-  pub packages : ArePackages sources found
 
 -- What a session over the history of this one edition did: the bytes left and held, where the two ends tell them,
 -- before it and after it, and how it ended.
@@ -69,10 +59,8 @@ pub record Answers (scans scans_after : Option (List Contents)) (before now : �
 -- a status that `answer` has
 abbrev pub IsOfAnswer : Status → Type 0
 IsOfAnswer statuses.Done = ⊤
-IsOfAnswer statuses.Usage = ⊥
 IsOfAnswer statuses.TreeFault = ⊤
+IsOfAnswer statuses.ReadFault = ⊤
 IsOfAnswer statuses.WriteFault = ⊤
 IsOfAnswer statuses.NoMemory = ⊤
-IsOfAnswer (statuses.Limit files bytes) = ⊥
-IsOfAnswer statuses.ReadFault = ⊤
-IsOfAnswer statuses.DoorFault = ⊥
+IsOfAnswer status = ⊥

@@ -1,5 +1,5 @@
 -- Cited by public clauses: the words of the command line. The project's own.
-use Rattle.std.specs.Prelude.{ℕ, Bool, true, false, ◌&&◌, ◌||◌, not, List, [], ◌∷◌, Option, Some, None, codes, drop, slice_index_or, if◌then◌else◌}
+use Rattle.std.specs.Prelude.{ℕ, Bool, true, false, ◌&&◌, ◌||◌, not, List, [], ◌∷◌, Option, Some, None, codes, drop, slice_index_or, ⊤, if◌then◌else◌}
 use Rattle.std.specs.List.{list_all}
 use Rattle.std.specs.Str.{bytes_eq}
 use Rattle.godoc.specs.declared.words.Command as commands
@@ -38,3 +38,9 @@ command_of (word ∷ name ∷ other ∷ words) = None
 abbrev pub asked : commands.Command → Command
 asked (variants.Find name) = find name.now
 asked variants.Answer = answer
+
+-- the words ask for a command that scans the tree
+abbrev pub AskForScan : Option Command → Type 0
+AskForScan (Some (find name)) = ⊤
+AskForScan (Some answer) = ⊤
+AskForScan None = ⊥

@@ -3,20 +3,22 @@
 ghost use Rattle.std.specs.Prelude.{◌≡◌, ◌↔◌, ◌≤◌, All, IfOk, IfSome, IsSome, IsTrue, OnErr, OnOk, length, map, string_bytes};
 ghost use Rattle.std.specs.Option.{ForSome};
 ghost use Rattle.plain_data.specs.Causes.{HasIoCause};
+ghost use Rattle.tree_io.specs.declared.tree.TheConstants.{MAX_FILE_BYTES};
+ghost use Rattle.tree_io.specs.Entries.{IsSmall};
 ghost use Rattle.tree_io.specs.Scans.{OpensScan, under_way};
 ghost use Rattle.tree_io.specs.Sources.{bytes_at};
-ghost use Rattle.godoc.specs.Find.{IsSmall, IsWithin};
+ghost use Rattle.godoc.specs.Find.{IsWithin};
 ghost use Rattle.godoc.specs.Outcome.{OpensAtMostOne};
-ghost use Rattle.godoc.specs.Packages.{ArePackages, HasClause, NamesPackage, begins_with_clause, is_package_name, is_package_word, package_path, text_of};
-ghost use Rattle.godoc.specs.Serving.{IsEdition, IsGathered};
+ghost use Rattle.godoc.specs.Packages.{ArePackages, HasPackageClause, NamesPackage, begins_with_clause, is_package_name, is_package_word, package_path, text_of};
+ghost use Rattle.godoc.specs.Serving.{IsEdition};
+ghost use Rattle.godoc.specs.Steps.{IsGathered};
 
-use crate::find::read_entry;
 use go_ast::{IoFail, Mem, NoMemory, Refused, Token, TokenKind, Txt};
 use go_scanner::scan;
 use std::alloc::Global;
 use std::collections::BTreeSet;
 use std::marker::Model;
-use tree_io::{Entry, Tree};
+use tree_io::{Entry, Tree, read_entry};
 
 /// The packages that a scan of a tree found, seen by contracts as the list of their paths.
 #[derive(Drop)]
@@ -51,7 +53,8 @@ impl Edition {
 ///
 /// `Failed` where the tree can't be listed, and `NoMemory` where an allocation is refused.
 pub(crate) fn scan_tree<T: Tree>(alloc: Global, tree: &mut T) -> Result<Edition, IoFail>
-    ensures edition { IfOk result (IsEdition (T.scans tree.new) (T.read_faults tree.old) (T.read_faults tree.new)) }
+    ensures edition { IfOk result
+        (IsEdition (T.scans tree.new) (T.read_faults tree.old) (T.read_faults tree.new)) }
     ensures cause { HasIoCause (T.list_faults tree.old) (T.list_faults tree.new) result }
     ensures later { T.read_faults tree.old ≤ T.read_faults tree.new }
     ensures one_scan { OnOk result (OpensScan (T.scans tree.old) (T.scans tree.new)) }
@@ -75,8 +78,10 @@ fn in_order(alloc: Global, found: BTreeSet<String>) -> Mem<Vec<String>>
 
 /// The paths of the packages that some files of the scan under way name.
 fn gather<T: Tree>(alloc: Global, tree: &mut T, paths: &[Txt]) -> Mem<BTreeSet<String>>
-    requires { ForSome (T.scans tree.old) (λ told. All (λ path. IsSome (bytes_at (under_way told) path)) paths.now) }
-    ensures gathered { IfOk result (λ found. IsGathered (T.scans tree.old) paths.now (T.read_faults tree.old) (T.read_faults tree.new) (map string_bytes found.keys)) }
+    requires { ForSome (T.scans tree.old)
+        (λ told. All (λ path. IsSome (bytes_at (under_way told) path)) paths.now) }
+    ensures gathered { IfOk result (λ found. IsGathered (T.scans tree.old) paths.now
+        (T.read_faults tree.old) (T.read_faults tree.new) (map string_bytes found.keys)) }
     ensures later { T.read_faults tree.old ≤ T.read_faults tree.new }
     ensures same_scans { T.scans tree.new ≡ T.scans tree.old }
     ensures same_list_faults { T.list_faults tree.new ≡ T.list_faults tree.old }
@@ -84,7 +89,7 @@ fn gather<T: Tree>(alloc: Global, tree: &mut T, paths: &[Txt]) -> Mem<BTreeSet<S
     let mut found = BTreeSet::new(alloc);
     for path in paths {
         let entry = read_entry(alloc, tree, path.as_str())?;
-        if has_clause(alloc, &entry)? {
+        if has_package_clause(alloc, &entry)? {
             let package = package_path(path.as_str());
             found.insert(String::from_str(alloc, package)?)?;
         }
@@ -103,9 +108,9 @@ fn package_path(path: &str) -> &str
 }
 
 /// Whether a file names a package: it was read, and its source begins with a package clause.
-fn has_clause(alloc: Global, entry: &Entry) -> Mem<bool>
+fn has_package_clause(alloc: Global, entry: &Entry) -> Mem<bool>
     requires { IsSmall entry.now }
-    ensures { IfOk result (λ named. IsTrue named ↔ HasClause entry.now) }
+    ensures { IfOk result (λ named. IsTrue named ↔ HasPackageClause entry.now) }
 {
     match entry {
         Entry::Bytes(source) => names_package(alloc, source.as_slice()),
@@ -115,7 +120,7 @@ fn has_clause(alloc: Global, entry: &Entry) -> Mem<bool>
 
 /// Whether a source has a reading that begins with a package clause.
 fn names_package(alloc: Global, source: &[u8]) -> Mem<bool>
-    requires { length source.now ≤ 4194304 }
+    requires { length source.now ≤ MAX_FILE_BYTES }
     ensures { IfOk result (λ named. IsTrue named ↔ NamesPackage source.now) }
 {
     match scan(alloc, source) {

@@ -1,9 +1,9 @@
 //! The top call: everything that the program does.
 
 ghost use Rattle.std.specs.Prelude.{◌≡◌, ◌≢◌, ◌⊎◌, ◌↔◌, ℕ, List, Some, None, map, string_bytes};
-ghost use Rattle.plain_data.specs.Causes.{Rose};
+ghost use Rattle.plain_data.specs.Causes.{IsCaused, Rose};
 ghost use Rattle.tree_io.specs.Scans.{OpensScan};
-ghost use Rattle.godoc.specs.Words.{answer, command_of, find};
+ghost use Rattle.godoc.specs.Words.{AskForScan, answer, command_of, find};
 ghost use Rattle.godoc.specs.Outcome.{IsOfFind, OpensAtMostOne, WritesFound, WritesFront};
 ghost use Rattle.godoc.specs.Serving.{Answers, IsOfAnswer};
 
@@ -15,7 +15,7 @@ use link_io::{Sink, Source};
 use std::alloc::Global;
 use tree_io::Tree;
 
-/// Does what the words of the command line ask for, and answers how it ended.
+/// Does what the words of the command line ask for, and tells how that ended.
 ///
 /// The words `find` and an identifier that is no keyword ask for the places of a name. The call opens a scan
 /// of the tree, reads and scans its files one after another, and writes a line `PATH:LINE:COL` for each
@@ -25,7 +25,7 @@ use tree_io::Tree;
 /// The word `answer` alone asks for the replies to the requests of one connection. The call scans the tree
 /// once, and serves the input and the output as the two ways of the connection, by the packages that the
 /// scan found. It ends with the input, after a request that closes, after what can't be a request, and after
-/// 1,000 replies. All other words are answered `Usage`.
+/// 1,000 replies. All other words give `Usage`.
 pub fn run<R, T: Tree, I: Source, O: Sink>(
     _rt: &R,
     alloc: Global,
@@ -39,42 +39,61 @@ pub fn run<R, T: Tree, I: Source, O: Sink>(
     ensures usage_leaves_tree { result ≡ Status.Usage → tree.new ≡ tree.old }
     ensures usage_leaves_input { result ≡ Status.Usage → input.new ≡ input.old }
     ensures usage_leaves_output { result ≡ Status.Usage → out.new ≡ out.old }
-    ensures find_leaves_input { (name : List ℕ) → command_of (map string_bytes words.now) ≡ Some (find name) → input.new ≡ input.old }
-    ensures find_statuses { (name : List ℕ) → command_of (map string_bytes words.now) ≡ Some (find name) → IsOfFind result }
-    ensures answer_statuses { command_of (map string_bytes words.now) ≡ Some answer → IsOfAnswer result }
+    ensures find_leaves_input { (name : List ℕ)
+        → command_of (map string_bytes words.now) ≡ Some (find name) → input.new ≡ input.old }
+    ensures find_statuses { (name : List ℕ)
+        → command_of (map string_bytes words.now) ≡ Some (find name) → IsOfFind result }
+    ensures answer_statuses { command_of (map string_bytes words.now) ≡ Some answer
+        → IsOfAnswer result }
 
-    // No answer without its cause.
-    ensures tree_fault { result ≡ Status.TreeFault → Rose (T.list_faults tree.old) (T.list_faults tree.new) }
+    // A fault comes only where its count rose in this call, or stands at its end, and anything else only where
+    // the count is as it was.
+    ensures list_faults { IsCaused (T.list_faults tree.old) (T.list_faults tree.new)
+        (result ≡ Status.TreeFault) }
+    ensures read_faults { IsCaused (I.read_faults input.old) (I.read_faults input.new)
+        (result ≡ Status.ReadFault) }
+    ensures write_faults { IsCaused (O.write_faults out.old) (O.write_faults out.new)
+        (result ≡ Status.WriteFault) }
     ensures unread { result ≡ Status.TreeFault → input.new ≡ input.old }
     ensures unwritten { result ≡ Status.TreeFault → out.new ≡ out.old }
-    ensures read_fault { result ≡ Status.ReadFault → Rose (I.read_faults input.old) (I.read_faults input.new) }
-    ensures write_fault { result ≡ Status.WriteFault → Rose (O.write_faults out.old) (O.write_faults out.new) }
 
+    // Want of memory may come before the scan.
     ensures at_most_one_scan { OpensAtMostOne (T.scans tree.old) (T.scans tree.new) }
-    ensures one_scan { result ≡ Status.Done → OpensScan (T.scans tree.old) (T.scans tree.new) }
-    ensures find_scans { (name : List ℕ) → command_of (map string_bytes words.now) ≡ Some (find name) → result ≢ Status.TreeFault
+    ensures one_scan { AskForScan (command_of (map string_bytes words.now))
+        → result ≢ Status.TreeFault → result ≢ Status.NoMemory
         → OpensScan (T.scans tree.old) (T.scans tree.new) }
 
     // Exactly the text of `find` over the sources of that scan, or a first part of it.
-    ensures found { (name : List ℕ) → command_of (map string_bytes words.now) ≡ Some (find name) → result ≡ Status.Done
-        → WritesFound name (T.scans tree.new) (T.read_faults tree.old) (T.read_faults tree.new) (O.held out.old) (O.held out.new) }
+    ensures found { (name : List ℕ) → command_of (map string_bytes words.now) ≡ Some (find name)
+        → result ≡ Status.Done → WritesFound name (T.scans tree.new)
+        (T.read_faults tree.old) (T.read_faults tree.new) (O.held out.old) (O.held out.new) }
     ensures front { (name : List ℕ) → command_of (map string_bytes words.now) ≡ Some (find name)
-        → (result ≡ Status.WriteFault) ⊎ (result ≡ Status.NoMemory)
-        → WritesFront name (T.scans tree.new) (T.read_faults tree.old) (T.read_faults tree.new) (O.held out.old) (O.held out.new) }
+        → result ≡ Status.WriteFault → WritesFront name (T.scans tree.new)
+        (T.read_faults tree.old) (T.read_faults tree.new) (O.held out.old) (O.held out.new) }
+    ensures find_starved { (name : List ℕ)
+        → command_of (map string_bytes words.now) ≡ Some (find name) → result ≡ Status.NoMemory
+        → (out.new ≡ out.old) ⊎ WritesFront name (T.scans tree.new)
+        (T.read_faults tree.old) (T.read_faults tree.new) (O.held out.old) (O.held out.new) }
 
     // Exactly the text of the connection, by the one edition that the sources of that scan define, or what a
     // session leaves that fails. Where memory is wanting for the edition nothing is read or written.
-    ensures answered { command_of (map string_bytes words.now) ≡ Some answer → result ≢ Status.TreeFault → result ≢ Status.NoMemory
-        → Answers (T.scans tree.old) (T.scans tree.new) (T.read_faults tree.old) (T.read_faults tree.new) (I.remaining input.old) (I.remaining input.new) (O.held out.old) (O.held out.new) result }
-    ensures starved { command_of (map string_bytes words.now) ≡ Some answer → result ≡ Status.NoMemory
+    ensures answered { command_of (map string_bytes words.now) ≡ Some answer
+        → result ≢ Status.TreeFault → result ≢ Status.NoMemory
+        → Answers (T.scans tree.old) (T.scans tree.new)
+        (T.read_faults tree.old) (T.read_faults tree.new)
+        (I.remaining input.old) (I.remaining input.new) (O.held out.old) (O.held out.new) result }
+    ensures answer_starved { command_of (map string_bytes words.now) ≡ Some answer
+        → result ≡ Status.NoMemory
         → ((input.new ≡ input.old) × (out.new ≡ out.old))
-        ⊎ Answers (T.scans tree.old) (T.scans tree.new) (T.read_faults tree.old) (T.read_faults tree.new) (I.remaining input.old) (I.remaining input.new) (O.held out.old) (O.held out.new) result }
+        ⊎ Answers (T.scans tree.old) (T.scans tree.new)
+        (T.read_faults tree.old) (T.read_faults tree.new)
+        (I.remaining input.old) (I.remaining input.new) (O.held out.old) (O.held out.new) result }
 
     // Where no count of faults rose, only want of memory keeps a command from its end.
-    ensures complete { (command_of (map string_bytes words.now) ≡ None → ⊥)
-        → (Rose (T.list_faults tree.old) (T.list_faults tree.new) → ⊥)
-        → (Rose (I.read_faults input.old) (I.read_faults input.new) → ⊥)
-        → (Rose (O.write_faults out.old) (O.write_faults out.new) → ⊥)
+    ensures complete { ¬ (command_of (map string_bytes words.now) ≡ None)
+        → ¬ (Rose (T.list_faults tree.old) (T.list_faults tree.new))
+        → ¬ (Rose (I.read_faults input.old) (I.read_faults input.new))
+        → ¬ (Rose (O.write_faults out.old) (O.write_faults out.new))
         → (result ≡ Status.Done) ⊎ (result ≡ Status.NoMemory) }
 {
     let Some(command) = command_of(words) else {

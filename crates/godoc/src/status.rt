@@ -1,8 +1,9 @@
-//! How a run ended, and why one stopped before its end.
+//! How a run ended, and why a command stopped before its end.
 
 ghost use Rattle.std.specs.Prelude.{◌≡◌, option_copied};
 ghost use Rattle.godoc.specs.Status.{exit_status_of, message_of};
 
+use go_ast::NoMemory;
 use session::SessionEnd;
 
 /// How a run ended.
@@ -42,9 +43,20 @@ pub(crate) enum Stop {
     NoMemory,
 }
 
+impl From<NoMemory> for Stop {
+    ghost use Rattle.std.specs.Prelude.{◌≡◌};
+    ghost use Rattle.godoc.specs.declared.status.Stop.TheVariants as stops;
+
+    ghost from_gives = { λ _ stop. stop ≡ stops.NoMemory };
+
+    fn from(_: NoMemory) -> Stop {
+        Stop::NoMemory
+    }
+}
+
 impl From<Stop> for Status {
     ghost use Rattle.std.specs.Prelude.{◌≡◌};
-    ghost use Rattle.godoc.specs.Outcome.{status_of};
+    ghost use Rattle.godoc.specs.Steps.{status_of};
 
     ghost from_gives = { λ stop status. status ≡ status_of stop };
 

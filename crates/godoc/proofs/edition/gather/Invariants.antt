@@ -1,6 +1,6 @@
 use Rattle.std.proofs.Common.{◌≡◌, ◌≤◌, map, take, string_bytes}
 use Rattle.std.specs.BTreeSet.{IsOrdered}
-use Rattle.godoc.specs.Serving.{IsGathered}
+use Rattle.godoc.specs.Steps.{IsGathered}
 use Rattle.godoc.proofs.edition.gather.Given as goal
 
 -- the packages of the paths so far are found

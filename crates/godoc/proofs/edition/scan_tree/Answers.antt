@@ -1,7 +1,7 @@
 use Rattle.std.proofs.Common.{◌∙◌, ap, map, string_bytes, subst, sym}
 use Rattle.godoc.specs.Packages.{ArePackages}
+use Rattle.tree_io.proofs.Laws.{listed_are_known}
 use Rattle.godoc.proofs.Gathering.{IsEdition-gathered}
-use Rattle.godoc.proofs.Outcomes.{listed_are_known}
 use Rattle.godoc.proofs.edition.scan_tree.Goals as goal
 
 pub gather-requires : goal.gather-requires
@@ -14,4 +14,4 @@ invariant_of-result g c =
     c.in_ok-found.ensures.same_scans (sym (c.in_ok-paths.ensures.same_read_faults ∙ c.open_scan.ensures.same_read_faults))
     (rw (c.as_slice.ensures, c.in_ok-paths.ensures.same_scans) c.in_ok-paths.ensures.told) (rw c.as_slice.ensures c.in_ok-paths.ensures.belong) (rw c.as_slice.ensures c.in_ok-paths.ensures.rising)
     c.in_ok-found.ensures.gathered in
-    ∣ (edition.sources, edition.valid, rw c.in_ok-packages.ensures edition.packages) ∣₁
+    ∣ (edition.sources, edition.scanned.valid, rw c.in_ok-packages.ensures edition.packages) ∣₁

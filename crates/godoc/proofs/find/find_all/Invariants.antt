@@ -1,5 +1,5 @@
 use Rattle.std.proofs.Common.{◌≡◌, ◌≤◌, take}
-use Rattle.godoc.specs.Outcome.{WritesSome}
+use Rattle.godoc.specs.Steps.{WritesSome}
 use Rattle.godoc.proofs.find.find_all.Given as goal
 
 -- the text of the paths so far is written
@@ -10,5 +10,5 @@ invariant-loop-path g l = record {
   same_scans : g.T.Tree.scans l.tree ≡ g.T.Tree.scans l.fn.tree;
   same_list_faults : g.T.Tree.list_faults l.tree ≡ g.T.Tree.list_faults l.fn.tree;
   later : g.T.Tree.read_faults l.fn.tree ≤ g.T.Tree.read_faults l.tree;
-  write_later : g.O.Sink.write_faults l.fn.out ≤ g.O.Sink.write_faults l.out;
+  write_faults : g.O.Sink.write_faults l.out ≡ g.O.Sink.write_faults l.fn.out;
 }
