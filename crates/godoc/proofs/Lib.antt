@@ -1,8 +1,8 @@
-pub mod Addresses
-pub mod Folders
-pub mod Gathering
-pub mod Joins
-pub mod Positions
-pub mod Sessions
-pub mod HitLines
-pub mod Outcomes
+mod Addresses
+mod Folders
+mod Gathering
+mod HitLines
+mod Joins
+mod Outcomes
+mod Positions
+mod Sessions

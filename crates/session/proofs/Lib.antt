@@ -1,6 +1,7 @@
-pub mod IncomingLemmas
-pub mod StreamLaws
-pub mod ReplyLemmas
-pub mod TextLemmas
-pub mod AnsweredLemmas
-pub mod Progress
+pub mod Laws
+mod AnsweredLemmas
+mod IncomingLemmas
+mod Progress
+mod ReplyLemmas
+mod StreamLaws
+mod TextLemmas
