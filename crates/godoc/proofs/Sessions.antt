@@ -11,7 +11,7 @@ use Rattle.session.specs.declared.session_end.SessionEnd.{SessionEnd}
 use Rattle.session.specs.declared.session_end.SessionEnd.TheVariants as ends
 use Rattle.session.specs.Session.{IsAnswered, Session}
 use Rattle.session.specs.Text.{Replier, answerable, edition_at, refusal, replies_from}
-use Rattle.session.proofs.Laws.{Session-unbegun, replies-grown}
+use Rattle.session.proofs.SessionLaws.{Session-unbegun, replies-grown}
 use Rattle.godoc.specs.Replies.{reply_of}
 use Rattle.godoc.specs.Serving.{Serves}
 

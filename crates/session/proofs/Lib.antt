@@ -1,4 +1,4 @@
-pub mod Laws
+pub mod SessionLaws
 mod AnsweredLemmas
 mod IncomingLemmas
 mod Progress

@@ -1,5 +1,5 @@
--- What one session did, by the bytes that were read and written in it and the entries that it gained. The
--- project's own.
+-- Cited by public clauses: what one session did, by the bytes that were read and written in it and the entries that
+-- it gained. The project's own.
 use Rattle.std.specs.Prelude.{◌≡◌, ◌≢◌, ℕ, ◌-◌, ◌≤◌, ◌⊎◌, ◌↔◌, Bool, IsTrue, List, [], ◌++◌, length, All, Option, IfSome, IsSome}
 use Rattle.http_wire.specs.declared.request.Request.{Request}
 use Rattle.http_wire.specs.Requests.{Requests, StreamEnd}

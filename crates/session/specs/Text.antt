@@ -1,6 +1,6 @@
--- The text that answers a connection: a reply for each request that is answered, in the order of the requests
--- (RFC 9112, section 9.3.2), by whatever function makes the replies. The limit of 1,000 requests on a connection
--- and the bad reply are the project's own.
+-- Cited by public clauses: the text that answers a connection, which is a reply for each request that is answered,
+-- in the order of the requests (RFC 9112, section 9.3.2), by whatever function makes the replies. The limit of
+-- requests on a connection and the bad reply are the project's own.
 use Rattle.std.specs.Prelude.{ℕ, zero, suc, ◌+◌, ◌==◌, nat_lt, Bool, true, false, ◌||◌, ◌&&◌, not, if◌then◌else◌, List, [], ◌∷◌, ◌++◌, length, take, slice_get, Option, None}
 use Rattle.std.specs.List.{concat, list_any}
 use Rattle.std.specs.Option.{option_map_or}
@@ -15,10 +15,14 @@ use Rattle.session.specs.declared.session_end.SessionEnd.TheVariants as ends
 abbrev pub Replier : Type 0 → Type 0
 Replier E = ℕ → E → Request → Bool → List ℕ
 
+-- the most requests that are answered on one connection
+abbrev pub request_limit : ℕ
+request_limit = 1000
+
 -- whether the connection closes after the reply to this request, which has this number on its connection,
 -- counted from 1
 abbrev pub is_last : ℕ → Request → Bool
-is_last number request = request.close || number == 1000
+is_last number request = request.close || number == request_limit
 
 -- of these requests, the first of which has this number, those that are answered: up to and with the first after
 -- whose reply the connection closes
@@ -59,15 +63,14 @@ some_closes requests = list_any (λ (request : Request). request.close) requests
 
 -- whether the stream ends in what can't be a request
 abbrev pub is_bad : StreamEnd → Bool
-is_bad Clean = false
 is_bad Bad = true
-is_bad Unfinished = false
+is_bad end = false
 
 -- the bad reply, which follows so many replies where they answer all requests of the stream, none of these
 -- closes, they are fewer than 1,000, and the stream ends in what can't be a request; else nothing
 abbrev pub refusal : List Request → StreamEnd → ℕ → List ℕ
 refusal requests end count =
-    if count == length requests && not (some_closes requests) && nat_lt count 1000 && is_bad end
+    if count == length requests && not (some_closes requests) && nat_lt count request_limit && is_bad end
     then bad_reply_bytes else []
 
 -- The text of a connection whose stream has these requests and ends so, by the entries that were gained for the
@@ -92,4 +95,4 @@ end_at Unfinished = ends.ReadFault
 abbrev pub end_of : List Request → StreamEnd → SessionEnd
 end_of requests end =
     if some_closes (answerable requests) then ends.Closed
-    else (if nat_lt (length requests) 1000 then end_at end else ends.Full)
+    else (if nat_lt (length requests) request_limit then end_at end else ends.Full)
