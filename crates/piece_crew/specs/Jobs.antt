@@ -1,0 +1,6 @@
+-- Jobs and their outputs, as public clauses speak of them. The project's own.
+use Rattle.std.specs.Prelude.{◌≡◌, ℕ, List, slice_get, Some}
+
+-- The output at each place, counted from 0, is one that the job with that number gives.
+abbrev pub AreInOrder : {O : Type 0} → (ℕ → O → Type 0) → List O → Type 0
+AreInOrder {O} gives outputs = (number : ℕ) (output : O) → slice_get outputs number ≡ Some output → gives number output

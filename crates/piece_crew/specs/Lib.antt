@@ -1,0 +1,4 @@
+pub mod Claims
+pub mod Jobs
+pub mod Placing
+pub mod Rule

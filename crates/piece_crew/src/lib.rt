@@ -1,0 +1,14 @@
+//! Workers that take the jobs of a list one after another, each from one claim word, and give their outputs
+//! in the order of the jobs.
+#![tactic(auto)]
+
+mod claims;
+mod crew;
+mod group;
+mod job;
+mod order;
+mod rule;
+
+pub use claims::{ClaimSeat, Claims};
+pub use crew::run_pieces;
+pub use job::Job;
