@@ -1,4 +1,4 @@
+pub mod Bundles
 pub mod Claims
 pub mod Jobs
-pub mod Placing
 pub mod Rule

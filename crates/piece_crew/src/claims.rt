@@ -36,6 +36,9 @@ impl ClaimSeat {
         ensures below { IfSome result (λ number. number < self.old.word.total) }
         ensures rising { IfSome result (λ number. All (λ earlier. earlier < number) self.old.claimed) }
         ensures ended { IfNone result (FoundPast self.old self.new) }
+
+        // What stays, whatever the answer.
+        ensures word { self.new.word ≡ self.old.word }
     {
         self.group.claim()
     }
@@ -79,7 +82,7 @@ impl Claims {
     /// numbers below the answer, each once, and the answer is the total where each seat has had its None.
     /// It takes no memory.
     pub fn close(seats: Seq<ClaimSeat>) -> u64
-        requires all { AreAllSeats seats }
+        requires { AreAllSeats seats }
         ensures claims { IsEachBelow result (claims_of seats) }
         ensures within { All (λ seat. result ≤ seat.word.total) seats }
         ensures total { All HasEnded seats → All (λ seat. result ≡ seat.word.total) seats }

@@ -1,8 +1,9 @@
 //! Workers, each of which claims jobs and does them until none is left.
 
-ghost use Rattle.std.specs.Prelude.{◌≡◌, ℕ, ◌^◌, ◌<◌, ◌≤◌, map, length, All, IfOk};
-ghost use Rattle.piece_crew.specs.Claims.{HasEnded, fresh};
+ghost use Rattle.std.specs.Prelude.{◌≡◌, ℕ, ◌^◌, ◌<◌, ◌≤◌, length, All, IfOk, slice_index_or};
+ghost use Rattle.piece_crew.specs.Claims.{fresh};
 ghost use Rattle.piece_crew.specs.Jobs.{AreInOrder};
+ghost use Rattle.piece_crew.specs.Bundles.{AreWorkedOff, IsWorkedOff};
 
 use crate::claims::{ClaimSeat, Claims};
 use crate::job::Job;
@@ -17,11 +18,7 @@ fn work_off<J: Job>(alloc: Global, all: &J, mut seat: ClaimSeat) -> Mem<Bundle<J
     requires fresh { seat ≡ fresh seat.word }
     requires total { seat.word.total ≡ J.jobs all.now }
     requires few { J.jobs all.now < 2 ^ 32 }
-    ensures word { IfOk result (λ bundle. bundle.seat.word ≡ seat.word) }
-    ensures ended { IfOk result (λ bundle. HasEnded bundle.seat) }
-    ensures numbers { IfOk result (λ bundle. bundle.seat.claimed ≡ map (λ piece. piece.number) bundle.pieces.items) }
-    ensures within { IfOk result (λ bundle. All (λ piece. piece.number < J.jobs all.now) bundle.pieces.items) }
-    ensures gives { IfOk result (λ bundle. All (λ piece. J.gives all.now piece.number piece.output) bundle.pieces.items) }
+    ensures { IfOk result (λ bundle. IsWorkedOff (J.gives all.now) seat.word bundle) }
 {
     let mut pieces = Vec::new(alloc);
     while let Some(number) = seat.claim() {
@@ -30,6 +27,41 @@ fn work_off<J: Job>(alloc: Global, all: &J, mut seat: ClaimSeat) -> Mem<Bundle<J
         pieces.push(Piece { number, output })?;
     }
     Ok(Bundle { seat, pieces })
+}
+
+// What a worker at each seat brings back, each of which may have a thread of its own.
+fn work_at_seats<J: Job + Sync, R: Threads + Sync>(
+    rt: &R,
+    alloc: Global,
+    all: &J,
+    seats: Vec<ClaimSeat>,
+) -> Mem<Vec<Mem<Bundle<J::Out>>>>
+where
+    J::Out: Send,
+    requires each { All (λ seat. (seat ≡ fresh seat.word) × (seat.word.total ≡ J.jobs all.now)) seats.items }
+    requires few { J.jobs all.now < 2 ^ 32 }
+    ensures len { IfOk result (λ results. length results.items ≡ length seats.items) }
+    ensures each { IfOk result (λ results. (k : ℕ) (r : _) (s : _) → k < length seats.items → IfOk (slice_index_or results.items k r) (λ bundle. IsWorkedOff (J.gives all.now) (slice_index_or seats.items k s).word bundle)) }
+{
+    Ok(thread::map_vec(rt, seats, &|seat| work_off(alloc, all, seat))?)
+}
+
+// Does all jobs by so many workers.
+fn work_beside<J: Job + Sync, R: Threads + Sync>(
+    rt: &R,
+    alloc: Global,
+    all: &J,
+    workers: u32,
+) -> Mem<Vec<Bundle<J::Out>>>
+where
+    J::Out: Send,
+    requires some { 1 ≤ workers }
+    requires few { workers ≤ 64 }
+    ensures { IfOk result (λ bundles. AreWorkedOff (J.gives all.now) (J.jobs all.now) bundles.items) }
+{
+    let seats = Claims::make(alloc, u64::from(all.count()), workers)?;
+    let results = work_at_seats(rt, alloc, all, seats.into_vec())?;
+    all_done(alloc, results)
 }
 
 /// Does all jobs by so many workers, and gives one output for each job, in the order of the jobs, whatever
@@ -54,12 +86,9 @@ where
     ensures count { IfOk result (λ outputs. length outputs ≡ J.jobs all.now) }
     ensures order { IfOk result (λ outputs. AreInOrder (J.gives all.now) outputs) }
 {
-    let count = all.count();
-    let seats = Claims::make(alloc, u64::from(count), workers)?;
-    let results = thread::map_vec(rt, seats.into_vec(), &|seat| work_off(alloc, all, seat))?;
-    let bundles = all_done(alloc, results)?;
+    let bundles = work_beside(rt, alloc, all, workers)?;
     let mut seats = Vec::with_capacity(alloc, bundles.len())?;
-    let mut places = empty_places(alloc, count)?;
+    let mut places = empty_places(alloc, all.count())?;
     take_apart(bundles, &mut seats, &mut places)?;
     // Each seat has had its `None`, so each number was claimed, and each place is taken.
     let _claimed = Claims::close(Seq::from_vec(seats));

@@ -8,6 +8,8 @@ mod group;
 mod job;
 mod order;
 mod rule;
+#[cfg(test)]
+mod tests;
 
 pub use claims::{ClaimSeat, Claims};
 pub use crew::run_pieces;

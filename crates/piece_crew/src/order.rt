@@ -2,7 +2,7 @@
 
 ghost use Rattle.std.specs.Prelude.{◌≡◌, ℕ, ◌<◌, ◌≤◌, Some, Ok, None, [], ◌∷◌, ◌++◌, map, length, replicate, All, IfOk, OnOk, IsSome, vec_len};
 ghost use Rattle.std.specs.List.{fold};
-ghost use Rattle.piece_crew.specs.Placing.{place_all, placed};
+ghost use Rattle.piece_crew.specs.Bundles.{place_all, placed};
 
 use crate::claims::ClaimSeat;
 use plain_data::{Mem, Seq};
@@ -50,7 +50,8 @@ pub(crate) fn empty_places<O: Drop>(alloc: Global, count: u32) -> Mem<Vec<Option
 // Puts each output in the place with its job's number.
 fn place<O: Drop>(pieces: Vec<Piece<O>>, places: &mut Vec<Option<O>>)
     requires { All (λ piece. piece.number < vec_len places.old) pieces.items }
-    ensures { places.new.items ≡ fold placed places.old.items pieces.items }
+    ensures places { places.new.items ≡ fold placed places.old.items pieces.items }
+    ensures len { vec_len places.new ≡ vec_len places.old }
 {
     for Piece { number, output } in pieces {
         places[number as usize] = Some(output);

@@ -7,7 +7,7 @@ use Rattle.piece_crew.proofs.claims.Claims.close.Goals as goal
 pub loop-seat-init : goal.loop-seat-init
 loop-seat-init c =
     let rest = c.pop.new.self.items in
-    joined_first c.args.seats rest c.into_group-whole.result.seat.table_id c.into_group-whole.result.seat.me.0 c.requires.all
+    joined_first c.args.seats rest c.into_group-whole.result.seat.table_id c.into_group-whole.result.seat.me.0 c.requires
       (sym c.into_vec-seats.ensures ∙ c.in-Some.ensures.items ∙ ap (λ last. rest ++ last ∷ []) (sym c.into_group-whole.ensures.same)) c.into_group-whole.ensures.one
 
 pub loop-seat-preserved : goal.loop-seat-preserved
