@@ -1,5 +1,5 @@
 -- All the seats of a claim word, while they are joined one after another.
-use Rattle.std.proofs.Common.{◌≡◌, ℕ, ◌+◌, ◌<◌, ◌≤◌, List, [], ◌∷◌, ◌++◌, length, All, refl, sym, ap, ◌∙◌, subst, arith, length-append}
+use Rattle.std.proofs.Common.{◌≡◌, ℕ, ◌+◌, ◌<◌, List, [], ◌∷◌, ◌++◌, length, All, sym, ap, ◌∙◌, arith, length-append}
 use Rattle.std.specs.Prelude.{Some}
 use Rattle.std.proofs.lemmas.List.Elements.{All-pop, All-weaker}
 use Rattle.atomic_table.specs.Seated.{TableId}
@@ -53,9 +53,9 @@ joined_more all items rest id other v w before cut one =
       some = omega arith;
       count = omega arith;
       claims = λ x.
-        let a = before.claims x in
-        let b = ap (λ seats. times x (claims_of seats)) cut ∙ times_claims-push x rest next in
-        omega (arith, times-append x v.claimed w.claimed);
+          let a = before.claims x in
+          let b = ap (λ seats. times x (claims_of seats)) cut ∙ times_claims-push x rest next in
+          omega (arith, times-append x v.claimed w.claimed);
       ended = λ ended. let a = before.ended ended in omega (arith, length-append v.past w.past);
     }
 

@@ -1,5 +1,5 @@
 -- Each kind of step keeps the rule of the claim word.
-use Rattle.std.proofs.Common.{◌≡◌, ◌≢◌, ℕ, zero, suc, ◌+◌, ◌-◌, ◌%◌, ◌^◌, ◌<◌, ◌≤◌, ◌⊎◌, min, List, [], ◌∷◌, ◌++◌, length, set, slice_index, All, refl, sym, ap, ◌∙◌, subst, ⊎_elim, arith, if◌then◌else◌, ◌==◌, length-append}
+use Rattle.std.proofs.Common.{◌≡◌, ◌≢◌, ℕ, zero, suc, ◌+◌, ◌%◌, ◌<◌, ◌≤◌, min, List, [], ◌∷◌, ◌++◌, length, set, slice_index, refl, sym, ap, ◌∙◌, subst, ⊎_elim, arith, if◌then◌else◌, ◌==◌, length-append}
 use native.Mathlib.Decide.{dec_lt}
 use mathlib.Core.Option.{Option, some, none, some-injective, some-ne-none}
 use lib.ListN.{get_elem?}
@@ -25,7 +25,7 @@ drawn_counts total n id v views less at counts x =
     let m : min n total ≡ n = omega arith in
     let m' : n + 1 ≡ min (n + 1) total = omega arith in
     plus_drawn _ _ _ _ (once_below x n) (if n == x then 1 else 0) (total_set (λ u. times x u.claimed) views id v (drew v n) at)
-      (times-append x v.claimed (n ∷ []) ∙ ap (λ k. times x v.claimed + k) (one_more x n)) (counts x ∙ ap (once_below x) m)
+    (times-append x v.claimed (n ∷ []) ∙ ap (λ k. times x v.claimed + k) (one_more x n)) (counts x ∙ ap (once_below x) m)
     ∙ sym (below-more x n) ∙ ap (once_below x) m'
 
 fits_set : (terms : Terms) (views : List View) (id : ℕ) (w : View) → ((seat : ℕ) (v : View) → get_elem? views seat ≡ some v → Fits terms v) → Fits terms w
@@ -110,8 +110,8 @@ pub draws : (terms : Terms) (slots id : ℕ) (v : View) (c : List (ℕ × Unit {
 draws terms slots id v c room s g deep at fits =
     let n = g.word.0 in
     let P : List ℕ → Type 0 = λ ws. (w : View) × (a : Act (Unit {0})) × Valid s.homes c a
-      × Keeps terms (stepped (record { words = ws; homes = s.homes; views = s.views }) 0 ((slice_index ws 0 + 1) % 18446744073709551616) id c w a)
-      × Draws (step slots 0 1 0 none) (v, c) (slice_index ws 0) (w, carried_after c a) in
+    × Keeps terms (stepped (record { words = ws; homes = s.homes; views = s.views }) 0 ((slice_index ws 0 + 1) % 18446744073709551616) id c w a)
+    × Draws (step slots 0 1 0 none) (v, c) (slice_index ws 0) (w, carried_after c a) in
     subst P (sym g.word.1) (draws_at terms slots id v c n s.homes s.views room at g.small g.word.2 g.word.3 g.seats g.each (dec_lt n terms.total))
 
 -- a load by the seat of a view that stands for all seats
@@ -137,11 +137,11 @@ reads_at terms slots id v c n homes views at small word counts seats each =
       record {
         same = refl;
         claimed = λ have all x. sym (total_only (λ v. times x v.claimed) (λ v. v.seats) views id v at (whole have all) (λ j u there none. ap (times x) ((each j u there).spent none)))
-          ∙ counts x ∙ ap (λ k. once_below x (min n k)) (sym (fits.total have));
+            ∙ counts x ∙ ap (λ k. once_below x (min n k)) (sym (fits.total have));
         nones = λ have all.
-          let nones = total_only (λ v. length v.past) (λ v. v.seats) views id v at (whole have all) (λ j u there none. let few = (each j u there).nones in omega arith) in
-          let total = fits.total have in
-          omega arith;
+            let nones = total_only (λ v. length v.past) (λ v. v.seats) views id v at (whole have all) (λ j u there none. let few = (each j u there).nones in omega arith) in
+            let total = fits.total have in
+            omega arith;
       },
     )
 
@@ -149,8 +149,8 @@ pub reads : (terms : Terms) (slots id : ℕ) (v : View) (c : List (ℕ × Unit {
     → Allows (Keeps terms) slots id (v, c) 0 (λ n. n) (Reads (step slots 0 0 0 none) (v, c))
 reads terms slots id v c s g deep at fits =
     let P : List ℕ → Type 0 = λ ws. (w : View) × (a : Act (Unit {0})) × Valid s.homes c a
-      × Keeps terms (stepped (record { words = ws; homes = s.homes; views = s.views }) 0 (slice_index ws 0) id c w a)
-      × Reads (step slots 0 0 0 none) (v, c) (slice_index ws 0) (w, carried_after c a) in
+    × Keeps terms (stepped (record { words = ws; homes = s.homes; views = s.views }) 0 (slice_index ws 0) id c w a)
+    × Reads (step slots 0 0 0 none) (v, c) (slice_index ws 0) (w, carried_after c a) in
     subst P (sym g.word.1) (reads_at terms slots id v c g.word.0 s.homes s.views at g.small g.word.2 g.word.3 g.seats g.each)
 
 -- a view is cut in two
@@ -178,8 +178,8 @@ splits terms id v several unused s g at =
       );
       seats = seats ∙ g.seats;
       each = fits_push terms (set s.views id (left v)) (right v)
-        (fits_set terms s.views id (left v) g.each (record { total = λ _. total; made = λ _. made; nones = omega arith; spent = λ gone. absurd (omega arith) }))
-        (record { total = λ _. total; made = λ _. made; nones = omega arith; spent = λ gone. absurd (omega arith) });
+          (fits_set terms s.views id (left v) g.each (record { total = λ _. total; made = λ _. made; nones = omega arith; spent = λ gone. absurd (omega arith) }))
+          (record { total = λ _. total; made = λ _. made; nones = omega arith; spent = λ gone. absurd (omega arith) });
     }
 
 -- two views become one
@@ -194,9 +194,9 @@ pub joins : (terms : Terms) (id : ℕ) (v : View) (other : ℕ) (w : View) → 0
 joins terms id v other w have s g at apart there =
     let fits = g.each id v at in
     let kept : get_elem? s.views other ≡ some w = ⊎_elim
-      (λ (t : (other ≡ id) × (joined v w ≡ w)). absurd (apart t.0))
-      (λ (t : (other ≢ id) × (get_elem? s.views other ≡ some w)). t.1)
-      (at_set s.views id other (joined v w) w there) in
+    (λ (t : (other ≡ id) × (joined v w ≡ w)). absurd (apart t.0))
+    (λ (t : (other ≢ id) × (get_elem? s.views other ≡ some w)). t.1)
+    (at_set s.views id other (joined v w) w there) in
     let fits' = g.each other w kept in
     let nones = join_totals (λ v. length v.past) s.views id other v w (joined v w) spent at there (omega (arith, length-append v.past w.past)) in
     let seats = join_totals (λ v. v.seats) s.views id other v w (joined v w) spent at there (omega arith) in
@@ -210,11 +210,11 @@ joins terms id v other w have s g at apart there =
       );
       seats = seats ∙ g.seats;
       each = fits_set terms (set s.views id (joined v w)) other spent
-        (fits_set terms s.views id (joined v w) g.each (record {
-          total = λ _. fits.total have;
-          made = λ _. fits.made have;
-          nones = (let a = fits.nones in let b = fits'.nones in omega (arith, length-append v.past w.past));
-          spent = λ gone. absurd (omega arith);
-        }))
-        (record { total = λ gone. absurd (omega arith); made = λ gone. absurd (omega arith); nones = omega arith; spent = λ _. refl });
+          (fits_set terms s.views id (joined v w) g.each (record {
+            total = λ _. fits.total have;
+            made = λ _. fits.made have;
+            nones = (let a = fits.nones in let b = fits'.nones in omega (arith, length-append v.past w.past));
+            spent = λ gone. absurd (omega arith);
+          }))
+          (record { total = λ gone. absurd (omega arith); made = λ gone. absurd (omega arith); nones = omega arith; spent = λ _. refl });
     }

@@ -25,8 +25,8 @@ pub record Fits (terms : Terms) (v : View) : Type 0 where
 pub record Keeps (terms : Terms) (s : State (Unit {0}) View) : Type 0 where
   pub small : (terms.total < 4294967296) × (terms.seats ≤ 64)
   pub word : (w : ℕ) × (s.words ≡ w ∷ [])
-    × (w ≡ min w terms.total + total_of (λ v. length v.past) s.views)
-    × ((x : ℕ) → total_of (λ v. times x v.claimed) s.views ≡ once_below x (min w terms.total))
+      × (w ≡ min w terms.total + total_of (λ v. length v.past) s.views)
+      × ((x : ℕ) → total_of (λ v. times x v.claimed) s.views ≡ once_below x (min w terms.total))
   pub seats : total_of (λ v. v.seats) s.views ≡ terms.seats
   pub each : (seat : ℕ) (v : View) → get_elem? s.views seat ≡ some v → Fits terms v
 

@@ -79,7 +79,11 @@ impl SeatGroup {
         ensures same_id { self.new.seat.table_id ≡ self.old.seat.table_id }
     {
         let found = self.table.shared.fetch_add::<Drawing>(&mut self.seat, 0, 1);
-        if found < self.total { Some(found) } else { None }
+        if found < self.total {
+            Some(found)
+        } else {
+            None
+        }
     }
 
     // How many numbers were claimed, which a group of all seats knows.

@@ -6,6 +6,7 @@ mod claims;
 mod crew;
 mod group;
 mod job;
+mod laws;
 mod order;
 mod rule;
 #[cfg(test)]
@@ -14,3 +15,4 @@ mod tests;
 pub use claims::{ClaimSeat, Claims};
 pub use crew::run_pieces;
 pub use job::Job;
+pub use laws::outputs_do_not_depend_on_the_workers;

@@ -23,10 +23,7 @@ pub(crate) struct Bundle<O> {
 }
 
 // What all workers bring back, unless memory was wanting to one.
-pub(crate) fn all_done<O: Drop>(
-    alloc: Global,
-    results: Vec<Mem<Bundle<O>>>,
-) -> Mem<Vec<Bundle<O>>>
+pub(crate) fn all_done<O: Drop>(alloc: Global, results: Vec<Mem<Bundle<O>>>) -> Mem<Vec<Bundle<O>>>
     ensures { IfOk result (λ bundles. map Ok bundles.items ≡ results.items) }
 {
     let mut bundles = Vec::with_capacity(alloc, results.len())?;
@@ -82,9 +79,7 @@ pub(crate) fn outputs_of<O: Drop>(alloc: Global, places: Vec<Option<O>>) -> Mem<
 {
     let mut outputs = Vec::with_capacity(alloc, places.len())?;
     for place in places {
-        let Some(output) = place else {
-            unreachable!()
-        };
+        let Some(output) = place else { unreachable!() };
         outputs.push(output)?;
     }
     Ok(Seq::from_vec(outputs))

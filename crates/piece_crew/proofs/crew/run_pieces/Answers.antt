@@ -1,4 +1,4 @@
-use Rattle.std.proofs.Common.{◌≡◌, ◌++◌, ap, sym, ◌∙◌, length, map, replicate}
+use Rattle.std.proofs.Common.{◌≡◌, ◌++◌, ap, ◌∙◌, length, map, replicate}
 use Rattle.std.specs.Prelude.{None, Some}
 use Rattle.std.proofs.lemmas.Result.{IfOk-weaker}
 use Rattle.piece_crew.specs.Jobs.{AreInOrder}
@@ -9,7 +9,7 @@ pub close-claimed-requires : goal.close-claimed-requires
 close-claimed-requires g c =
     let jobs = g.J.Job.jobs c.args.all.now in
     seats_of (g.J.Job.gives c.args.all.now) jobs c.in_ok-bundles.bundles.items c.from_vec.result c.in_ok-bundles.ensures
-      (c.from_vec.ensures ∙ c.in_ok-take_apart.ensures.seats ∙ ap (λ before. before ++ map (λ bundle. bundle.seat) c.in_ok-bundles.bundles.items) c.in_ok-seats.ensures.items)
+    (c.from_vec.ensures ∙ c.in_ok-take_apart.ensures.seats ∙ ap (λ before. before ++ map (λ bundle. bundle.seat) c.in_ok-bundles.bundles.items) c.in_ok-seats.ensures.items)
 
 pub outputs_of-requires : goal.outputs_of-requires
 outputs_of-requires g c =
@@ -17,8 +17,8 @@ outputs_of-requires g c =
     let gives = g.J.Job.gives c.args.all.now in
     let seats = c.from_vec.ensures ∙ c.in_ok-take_apart.ensures.seats ∙ ap (λ before. before ++ map (λ bundle. bundle.seat) c.in_ok-bundles.bundles.items) c.in_ok-seats.ensures.items in
     all_taken gives jobs c.take_apart.new.places.items
-      (finished gives jobs c.close-claimed.result c.in_ok-bundles.bundles.items c.from_vec.result c.in_ok-places.places.items c.take_apart.new.places.items
-        c.in_ok-bundles.ensures seats c.close-claimed.ensures.claims c.close-claimed.ensures.total (c.in_ok-places.ensures ∙ ap (λ n. replicate n None) c.count.ensures) c.in_ok-take_apart.ensures.places)
+    (finished gives jobs c.close-claimed.result c.in_ok-bundles.bundles.items c.from_vec.result c.in_ok-places.places.items c.take_apart.new.places.items
+    c.in_ok-bundles.ensures seats c.close-claimed.ensures.claims c.close-claimed.ensures.total (c.in_ok-places.ensures ∙ ap (λ n. replicate n None) c.count.ensures) c.in_ok-take_apart.ensures.places)
 
 pub returns : goal.returns
 returns g c =
@@ -27,7 +27,7 @@ returns g c =
     let seats = c.from_vec.ensures ∙ c.in_ok-take_apart.ensures.seats ∙ ap (λ before. before ++ map (λ bundle. bundle.seat) c.in_ok-bundles.bundles.items) c.in_ok-seats.ensures.items in
     let places = c.take_apart.new.places.items in
     let placed = finished gives jobs c.close-claimed.result c.in_ok-bundles.bundles.items c.from_vec.result c.in_ok-places.places.items places
-      c.in_ok-bundles.ensures seats c.close-claimed.ensures.claims c.close-claimed.ensures.total (c.in_ok-places.ensures ∙ ap (λ n. replicate n None) c.count.ensures) c.in_ok-take_apart.ensures.places in
+    c.in_ok-bundles.ensures seats c.close-claimed.ensures.claims c.close-claimed.ensures.total (c.in_ok-places.ensures ∙ ap (λ n. replicate n None) c.count.ensures) c.in_ok-take_apart.ensures.places in
     record {
       count = IfOk-weaker c.outputs_of.result (λ outputs. map Some outputs ≡ places) (λ outputs. length outputs ≡ jobs) (λ outputs same. (in_order gives jobs places outputs placed same).0) c.outputs_of.ensures;
       order = IfOk-weaker c.outputs_of.result (λ outputs. map Some outputs ≡ places) (AreInOrder gives) (λ outputs same. (in_order gives jobs places outputs placed same).1) c.outputs_of.ensures;
