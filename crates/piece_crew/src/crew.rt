@@ -38,10 +38,13 @@ fn work_at_seats<J: Job + Sync, R: Threads + Sync>(
 ) -> Mem<Vec<Mem<Bundle<J::Out>>>>
 where
     J::Out: Send,
-    requires each { All (λ seat. (seat ≡ fresh seat.word) × (seat.word.total ≡ J.jobs all.now)) seats.items }
+    requires fresh { All (λ seat. seat ≡ fresh seat.word) seats.items }
+    requires total { All (λ seat. seat.word.total ≡ J.jobs all.now) seats.items }
     requires few { J.jobs all.now < 2 ^ 32 }
     ensures len { IfOk result (λ results. length results.items ≡ length seats.items) }
-    ensures each { IfOk result (λ results. (k : ℕ) (r : _) (s : _) → k < length seats.items → IfOk (slice_index_or results.items k r) (λ bundle. IsWorkedOff (J.gives all.now) (slice_index_or seats.items k s).word bundle)) }
+    ensures each { IfOk result (λ results. (k : ℕ) (r : _) (s : _) → k < length seats.items
+        → IfOk (slice_index_or results.items k r)
+        (λ bundle. IsWorkedOff (J.gives all.now) (slice_index_or seats.items k s).word bundle)) }
 {
     Ok(thread::map_vec(rt, seats, &|seat| work_off(alloc, all, seat))?)
 }
@@ -57,18 +60,20 @@ where
     J::Out: Send,
     requires some { 1 ≤ workers }
     requires few { workers ≤ 64 }
-    ensures { IfOk result (λ bundles. AreWorkedOff (J.gives all.now) (J.jobs all.now) bundles.items) }
+    ensures { IfOk result
+        (λ bundles. AreWorkedOff (J.gives all.now) (J.jobs all.now) bundles.items) }
 {
     let seats = Claims::make(alloc, u64::from(all.count()), workers)?;
     let results = work_at_seats(rt, alloc, all, seats.into_vec())?;
     all_done(alloc, results)
 }
 
-/// Does all jobs by so many workers, and gives one output for each job, in the order of the jobs, whatever
-/// the number of workers and the order of their claims.
+/// Does all jobs by so many workers, and gives one output for each job, in the order of the jobs,
+/// whatever the number of workers and the order of their claims.
 ///
-/// Each worker claims one job after another until none is left, so no worker waits for another. Where no
-/// thread can be made the caller does the work. The call waits for nobody but the threads that it joins.
+/// Each worker claims one job after another until none is left, so no worker waits for another.
+/// Where no thread can be made the caller does the work. The call waits for nobody but the threads
+/// that it joins.
 ///
 /// # Errors
 ///

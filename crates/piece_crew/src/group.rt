@@ -28,7 +28,8 @@ impl SeatGroup {
     pub(crate) fn new(alloc: Global, total: u64, seats: u64) -> Mem<SeatGroup>
         requires total { total < 2 ^ 32 }
         requires seats { seats ≤ 64 }
-        ensures { IfOk result (λ group. group.seat.me.0 ≡ opened (record { total = total; seats = seats })) }
+        ensures { IfOk result
+            (λ group. group.seat.me.0 ≡ opened (record { total = total; seats = seats })) }
     {
         let terms = Terms { total, seats };
         let (table, seat) = Table::of_words(alloc, &[0], &terms)?;
@@ -75,7 +76,8 @@ impl SeatGroup {
         ensures drawn { IfSome result (λ n. self.new.seat.me.0 ≡ drew self.old.seat.me.0 n) }
         ensures below { IfSome result (λ n. n < self.old.seat.me.0.total) }
         ensures rising { IfSome result (λ n. All (λ k. k < n) self.old.seat.me.0.claimed) }
-        ensures missed { IfNone result ((n : ℕ) × (self.old.seat.me.0.total ≤ n) × (self.new.seat.me.0 ≡ missed self.old.seat.me.0 n)) }
+        ensures missed { IfNone result ((n : ℕ) × (self.old.seat.me.0.total ≤ n)
+            × (self.new.seat.me.0 ≡ missed self.old.seat.me.0 n)) }
         ensures same_id { self.new.seat.table_id ≡ self.old.seat.table_id }
     {
         let found = self.table.shared.fetch_add::<Drawing>(&mut self.seat, 0, 1);

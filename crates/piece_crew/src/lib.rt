@@ -1,5 +1,5 @@
-//! Workers that take the jobs of a list one after another, each from one claim word, and give their outputs
-//! in the order of the jobs.
+//! Workers that take the jobs of a list one after another, all from one claim word, and give their
+//! outputs in the order of the jobs.
 #![tactic(auto)]
 
 mod claims;

@@ -61,9 +61,12 @@ pub(crate) fn take_apart<O: Drop>(
     seats: &mut Vec<ClaimSeat>,
     places: &mut Vec<Option<O>>,
 ) -> Mem<()>
-    requires { All (λ bundle. All (λ piece. piece.number < vec_len places.old) bundle.pieces.items) bundles.items }
-    ensures seats { OnOk result (seats.new.items ≡ seats.old.items ++ map (λ bundle. bundle.seat) bundles.items) }
-    ensures places { OnOk result (places.new.items ≡ fold place_all places.old.items bundles.items) }
+    requires { All (λ bundle. All (λ piece. piece.number < vec_len places.old) bundle.pieces.items)
+        bundles.items }
+    ensures seats { OnOk result
+        (seats.new.items ≡ seats.old.items ++ map (λ bundle. bundle.seat) bundles.items) }
+    ensures places { OnOk result
+        (places.new.items ≡ fold place_all places.old.items bundles.items) }
 {
     for Bundle { seat, pieces } in bundles {
         place(pieces, places);
