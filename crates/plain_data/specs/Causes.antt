@@ -1,8 +1,15 @@
 -- Cited by public contracts. What a count of faults says of an answer. A count stands still at the end of
 -- its type, 2 ^ 64 - 1.
-use Rattle.std.specs.Prelude.{◌≡◌, ℕ, ◌+◌, ◌-◌, ◌^◌, ◌≤◌, Result, OnErr, OnOk, IsErrOf, min}
+use Rattle.std.specs.Prelude.{◌≡◌, ◌↔◌, ℕ, ◌+◌, ◌-◌, ◌^◌, ◌≤◌, Result, OnErr, OnOk, IsErrOf, min}
+use Rattle.std.specs.IoError.{error_kind}
+use Rattle.std.specs.declared.io.Error.{Error}
+use Rattle.std.specs.declared.io.ErrorKind.TheVariants.{OutOfMemory}
 use Rattle.plain_data.specs.declared.errors.IoFail.{IoFail}
 use Rattle.plain_data.specs.declared.errors.IoFail.TheVariants as causes
+
+-- why a call of the system failed, by its error: for want of memory exactly where the error says so
+abbrev pub IsFailOf : Error → IoFail → Type 0
+IsFailOf error fail = (fail ≡ causes.NoMemory) ↔ (error_kind error ≡ OutOfMemory)
 
 -- the count rose by n at least, or stands at its end
 abbrev pub RoseBy : ℕ → ℕ → ℕ → Type 0

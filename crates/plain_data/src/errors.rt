@@ -77,12 +77,9 @@ impl From<NoMemory> for IoFail {
 }
 
 impl From<io::Error> for IoFail {
-    ghost use Rattle.std.specs.Prelude.{◌≡◌, ◌↔◌};
-    ghost use Rattle.std.specs.IoError.{error_kind};
-    ghost use Rattle.std.specs.declared.io.ErrorKind.TheVariants.{OutOfMemory};
-    ghost use Rattle.plain_data.specs.declared.errors.IoFail.TheVariants as causes;
+    ghost use Rattle.plain_data.specs.Causes.{IsFailOf};
 
-    ghost from_gives = { λ error fail. (fail ≡ causes.NoMemory) ↔ (error_kind error ≡ OutOfMemory) };
+    ghost from_gives = { IsFailOf };
 
     /// `NoMemory` exactly where the system says that memory was wanting.
     fn from(error: io::Error) -> IoFail {

@@ -1,16 +1,12 @@
 //! A tree in a real folder.
 
-ghost use Rattle.std.specs.Prelude.{IfOk};
-ghost use Rattle.tree_io.specs.Sources.{IsReadable};
-
-use crate::tree::{Entry, MAX_FILE_BYTES, Tree};
+use crate::file::read_file;
+use crate::tree::{Entry, Tree};
 use crate::walk::list_paths;
-use plain_data::{Bytes, Failed, FaultCount, IoFail, Seq, Txt};
+use plain_data::{Failed, FaultCount, IoFail, Seq, Txt};
 use std::alloc::Global;
 use std::fs::Files;
-use std::io::{ErrorKind, Read};
 use std::marker::Model;
-use std::{fs, io};
 
 /// A tree in a real folder. It tells nothing of its contents, which may change at any time. It goes to the
 /// files by the runtime that it keeps.
@@ -55,47 +51,6 @@ impl<R> FsTree<R> {
             read_faults: FaultCount::new(),
         }
     }
-}
-
-/// Why a call to the file system failed: for want of memory, or for a fault.
-pub(crate) fn io_fail(error: io::Error) -> IoFail {
-    if error.kind() == ErrorKind::OutOfMemory {
-        IoFail::NoMemory
-    } else {
-        IoFail::Failed
-    }
-}
-
-/// The path of a file or a folder below the root. An empty path is the root itself.
-pub(crate) fn full_path(alloc: Global, root: &str, path: &str) -> Result<String, IoFail> {
-    let mut full = String::from_str(alloc, root)?;
-    if !path.is_empty() {
-        full.push('/')?;
-        full.push_str(path)?;
-    }
-    Ok(full)
-}
-
-/// The file at a path below the root, or the file that a link there leads to. Anything that isn't a file is
-/// a fault. Of a longer file at most [`MAX_FILE_BYTES`] and one byte are read.
-fn read_file<R: Files>(rt: &R, alloc: Global, root: &str, path: &str) -> Result<Entry, IoFail>
-    ensures { IfOk result IsReadable }
-{
-    let full = full_path(alloc, root, path)?;
-    let metadata = fs::metadata(rt, full.as_str()).map_err(io_fail)?;
-    if !metadata.is_file() {
-        return Err(IoFail::Failed);
-    }
-    let file = fs::open(rt, full.as_str()).map_err(io_fail)?;
-    let most = MAX_FILE_BYTES as u64;
-    let mut bytes = Vec::with_capacity(alloc, metadata.len().min(most) as usize + 1)?;
-    file.take(most + 1)
-        .read_to_end(&mut bytes)
-        .map_err(io_fail)?;
-    if bytes.len() > MAX_FILE_BYTES {
-        return Ok(Entry::Large);
-    }
-    Ok(Entry::Bytes(Bytes::from_vec(bytes)))
 }
 
 impl<R: Files + AllocGlobal + Clone + Drop> Tree for FsTree<R> {

@@ -5,10 +5,12 @@
 #![tactic(auto)]
 
 mod entries;
+mod file;
 mod files;
 mod folder;
 mod memory;
 mod path;
+mod place;
 mod tree;
 mod walk;
 

@@ -1,14 +1,16 @@
 //! The walk through a real folder.
 
-ghost use Rattle.std.specs.Prelude.{◌≡◌, ◌+◌, ◌-◌, ◌≤◌, ◌<◌, ◌↔◌, All, IfOk, IsTrue, OnOk, map, string_bytes, vec_len};
-ghost use Rattle.tree_io.specs.Path.{Belongs, IsRising};
+ghost use Rattle.std.specs.Prelude.{◌≡◌, ◌+◌, ◌-◌, ◌∷◌, [], ◌++◌, ◌⊎◌, ◌≤◌, ◌<◌, ◌↔◌, All, IfErr, IfOk, IsErr, IsErrAnd, IsOkAnd, IsTrue, MatchResult, OnErr, OnOk, false, map, string_bytes, vec_len};
+ghost use Rattle.std.specs.Fs.{IsDir};
+ghost use Rattle.plain_data.specs.Causes.{IsFailOf};
+ghost use Rattle.tree_io.specs.Path.{Belongs, IsRising, MayLead};
 
-use crate::folder::{full_path, io_fail};
 use crate::path::{belongs, has_path_bytes, is_source_folder};
+use crate::place::{full_path, join};
 use plain_data::{IoFail, Mem, Seq, Txt};
 use std::alloc::Global;
-use std::fs;
-use std::fs::{DirEntry, Files};
+use std::fs::{DirEntry, FileType, Files};
+use std::{fs, io};
 
 /// The most entries of folders that one walk meets.
 pub(crate) const MAX_ENTRIES: usize = 4_000_000;
@@ -72,57 +74,76 @@ fn walk_folder<R: Files + AllocGlobal + Clone + Drop>(
     ensures nearer { OnOk result (vec_len walk.new.folders + (MAX_ENTRIES - walk.new.met)
         ≤ vec_len walk.old.folders + (MAX_ENTRIES - walk.old.met)) }
 {
-    let full = full_path(alloc, root, folder)?;
-    for entry in fs::read_dir(rt, full.as_str()).map_err(io_fail)? {
-        visit(alloc, folder, &entry.map_err(io_fail)?, walk)?;
+    let whole = full_path(alloc, root, folder)?;
+    for entry in fs::read_dir(rt, whole.as_str())? {
+        visit(alloc, folder, entry, walk)?;
     }
     Ok(())
 }
 
-/// Meets one entry of a folder: a folder is walked later, and a path that belongs is found. One entry more
-/// than [`MAX_ENTRIES`] is a fault.
-fn visit<R: Files>(
+/// Meets one entry of a folder, which may be an error. One entry more than [`MAX_ENTRIES`] is a fault.
+fn visit<R: Files + Drop>(
     alloc: Global,
     folder: &str,
-    entry: &DirEntry<R, Global>,
+    entry: io::Result<DirEntry<R, Global>>,
     walk: &mut Walk,
 ) -> Result<(), IoFail>
     requires met { walk.old.met ≤ MAX_ENTRIES }
     requires belong { All (λ path. Belongs (string_bytes path)) walk.old.paths.items }
+    ensures error { OnErr entry (IsErr result) }
+    ensures full { walk.old.met ≡ MAX_ENTRIES → IsErr result }
     ensures met { OnOk result (walk.new.met ≤ MAX_ENTRIES) }
     ensures belong { OnOk result (All (λ path. Belongs (string_bytes path)) walk.new.paths.items) }
     ensures nearer { OnOk result (vec_len walk.new.folders + (MAX_ENTRIES - walk.new.met)
         ≤ vec_len walk.old.folders + (MAX_ENTRIES - walk.old.met)) }
 {
+    let entry = entry?;
     if walk.met == MAX_ENTRIES {
         return Err(IoFail::Failed);
     }
     walk.met += 1;
-    if is_passed_over(entry.file_name()) {
-        return Ok(());
+    if may_lead(entry.file_name()) {
+        let is_folder = is_folder(entry.file_type())?;
+        meet(join(alloc, folder, entry.file_name())?, is_folder, walk)?;
     }
-    let path = join(alloc, folder, entry.file_name())?;
-    if entry.file_type().map_err(io_fail)?.is_dir() {
+    Ok(())
+}
+
+/// Whether paths that belong may stand under a name. Other entries are passed over, whatever they are.
+pub(crate) fn may_lead(name: &str) -> bool
+    ensures { IsTrue result ↔ MayLead name.now }
+{
+    is_source_folder(name) && has_path_bytes(name)
+}
+
+/// Whether an entry is a folder, by what the system says of it. A link is none.
+pub(crate) fn is_folder(kind: io::Result<FileType>) -> Result<bool, IoFail>
+    ensures { MatchResult kind (λ kind. IsOkAnd result (λ it. IsTrue it ↔ IsDir kind))
+        (λ error. IsErrAnd result (IsFailOf error)) }
+{
+    Ok(kind?.is_dir())
+}
+
+/// A folder is walked later, and a path that belongs is found.
+fn meet(path: String, is_folder: bool, walk: &mut Walk) -> Mem<()>
+    requires belong { All (λ path. Belongs (string_bytes path)) walk.old.paths.items }
+    ensures folder { IsTrue is_folder
+        → OnOk result (walk.new.folders.items ≡ walk.old.folders.items ++ path ∷ []) }
+    ensures no_folder { is_folder ≡ false → walk.new.folders ≡ walk.old.folders }
+    ensures file { is_folder ≡ false → Belongs (string_bytes path)
+        → OnOk result (walk.new.paths.items ≡ walk.old.paths.items ++ path ∷ []) }
+    ensures no_file { IsTrue is_folder ⊎ ¬ Belongs (string_bytes path)
+        → walk.new.paths ≡ walk.old.paths }
+    ensures belong { OnOk result (All (λ path. Belongs (string_bytes path)) walk.new.paths.items) }
+    ensures same_met { walk.new.met ≡ walk.old.met }
+    ensures folders { vec_len walk.new.folders ≤ vec_len walk.old.folders + 1 }
+{
+    if is_folder {
         walk.folders.push(path)?;
     } else if belongs(path.as_str()) {
         walk.paths.push(path)?;
     }
     Ok(())
-}
-
-/// Whether an entry with this name is neither walked nor listed, whatever it is.
-fn is_passed_over(name: &str) -> bool {
-    !is_source_folder(name) || !has_path_bytes(name)
-}
-
-/// The path of an entry of a folder below the root, which has the empty path.
-fn join(alloc: Global, folder: &str, name: &str) -> Mem<String> {
-    let mut path = String::from_str(alloc, folder)?;
-    if !folder.is_empty() {
-        path.push('/')?;
-    }
-    path.push_str(name)?;
-    Ok(path)
 }
 
 /// Texts of strings, in their order.
