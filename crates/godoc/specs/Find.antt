@@ -1,4 +1,5 @@
--- Cited by public clauses: the text of `find`, a line for each identifier with a name. The project's own.
+-- Cited by public clauses: the text of `find`, a line for each identifier with a name. The
+-- project's own.
 use Rattle.std.specs.Prelude.{◌≡◌, ℕ, Bool, true, false, ◌&&◌, ◌⊎◌, List, [], ◌∷◌, ◌++◌, slice_range, decimal, codes, if◌then◌else◌, ◌≤◌}
 use Rattle.std.specs.List.{flat_map}
 use Rattle.std.specs.Str.{bytes_eq}
@@ -32,21 +33,25 @@ is_hit name bytes token =
 
 -- PATH:LINE:COL and a newline
 unfoldable pub position_line : List ℕ → ℕ → ℕ → List ℕ
-position_line path line column = path ++ codes ":" ++ decimal line ++ codes ":" ++ decimal column ++ codes "\n"
+position_line path line column =
+    path ++ codes ":" ++ decimal line ++ codes ":" ++ decimal column ++ codes "\n"
 
 -- the line for a token that is a hit, where it begins; none for any other
 unfoldable pub line_for : List ℕ → List ℕ → List ℕ → Token → List ℕ
 line_for name path bytes token = if is_hit name bytes token
-    then position_line path (line_of bytes token.span.start) (column_of bytes token.span.start) else []
+    then position_line path (line_of bytes token.span.start) (column_of bytes token.span.start)
+    else []
 
 -- the lines of a source with these tokens
 abbrev pub hit_lines : List ℕ → List ℕ → List ℕ → List Token → List ℕ
 hit_lines name path bytes tokens = flat_map (line_for name path bytes) tokens
 
--- these are the lines of a file with these bytes: those of its reading, and none where it has no reading
+-- these are the lines of a file with these bytes: those of its reading, and none where it has no
+-- reading
 abbrev pub FindsIn : List ℕ → List ℕ → List ℕ → List ℕ → Type 0
 FindsIn name path bytes lines =
-    ((tokens : List Token) × (comments : List Comment) × Reads bytes tokens comments × (lines ≡ hit_lines name path bytes tokens))
+    ((tokens : List Token) × (comments : List Comment) × Reads bytes tokens comments
+    × (lines ≡ hit_lines name path bytes tokens))
     ⊎ ((IsRead bytes → ⊥) × (lines ≡ []))
 
 -- the lines of one source: none where its bytes aren't there
@@ -58,7 +63,8 @@ FindsAt name path entry lines = lines ≡ []
 abbrev pub IsFindText : List ℕ → Sources → List ℕ → Type 0
 IsFindText name [] text = text ≡ []
 IsFindText name (source ∷ sources) text =
-    (lines : List ℕ) × (more : List ℕ) × FindsAt name source.0 source.1 lines × IsFindText name sources more × (text ≡ lines ++ more)
+    (lines : List ℕ) × (more : List ℕ) × FindsAt name source.0 source.1 lines
+    × IsFindText name sources more × (text ≡ lines ++ more)
 
 -- the span of a token is in order, and within so many bytes
 abbrev pub IsWithin : ℕ → Token → Type 0

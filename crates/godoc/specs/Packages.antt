@@ -1,5 +1,5 @@
--- Cited by public clauses: the packages of a tree, as the paths of their folders. The project's own, but for the
--- package clause (The Go Programming Language Specification, "Package clause").
+-- Cited by public clauses: the packages of a tree, as the paths of their folders. The project's
+-- own, but for the package clause (The Go Programming Language Specification, "Package clause").
 use Rattle.std.specs.Prelude.{◌≡◌, ℕ, Bool, true, false, ◌&&◌, not, IsTrue, ◌↔◌, List, [], ◌∷◌, Contains, slice_range, codes}
 use Rattle.std.specs.Option.{option_map_or}
 use Rattle.std.specs.Path.{slash, rsplit_once}
@@ -33,24 +33,29 @@ text_of bytes token = slice_range bytes token.span.start token.span.end
 
 -- the keyword `package`
 abbrev pub is_package_word : List ℕ → Token → Bool
-is_package_word bytes token = is_keyword token.kind && bytes_eq (text_of bytes token) (codes "package")
+is_package_word bytes token =
+    is_keyword token.kind && bytes_eq (text_of bytes token) (codes "package")
 
 -- an identifier other than `_`
 abbrev pub is_package_name : List ℕ → Token → Bool
-is_package_name bytes token = is_identifier token.kind && not (bytes_eq (text_of bytes token) (codes "_"))
+is_package_name bytes token =
+    is_identifier token.kind && not (bytes_eq (text_of bytes token) (codes "_"))
 
 -- whether a source with these tokens begins with a package clause
 abbrev pub begins_with_clause : List ℕ → List Token → Bool
 begins_with_clause bytes [] = false
 begins_with_clause bytes (word ∷ []) = false
-begins_with_clause bytes (word ∷ name ∷ tokens) = is_package_word bytes word && is_package_name bytes name
+begins_with_clause bytes (word ∷ name ∷ tokens) =
+    is_package_word bytes word && is_package_name bytes name
 
 -- a file with these bytes names a package: they have a reading, which begins with a package clause
 abbrev pub NamesPackage : List ℕ → Type 0
 NamesPackage bytes =
-    (tokens : List Token) × (comments : List Comment) × Reads bytes tokens comments × IsTrue (begins_with_clause bytes tokens)
+    (tokens : List Token) × (comments : List Comment) × Reads bytes tokens comments
+    × IsTrue (begins_with_clause bytes tokens)
 
--- the path of the package of a file: its folder, which stands before the last `/`, and `_` for a file in the root
+-- the path of the package of a file: its folder, which stands before the last `/`, and `_` for a
+-- file in the root
 abbrev pub package_path : List ℕ → List ℕ
 package_path path = option_map_or (λ split. split.0) (rsplit_once slash path) (codes "_")
 

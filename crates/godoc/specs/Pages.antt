@@ -1,13 +1,13 @@
--- Cited by public clauses: the pages, byte for byte. Their wording is the project's own; how a byte is escaped in an address is RFC 3986,
--- section 2.1.
+-- Cited by public clauses: the pages, byte for byte. Their wording is the project's own; how a byte
+-- is escaped in an address is RFC 3986, section 2.1.
 use Rattle.std.specs.Prelude.{ℕ, Bool, ◌||◌, ◌==◌, List, [], ◌∷◌, ◌++◌, codes, if◌then◌else◌}
 use Rattle.std.specs.Char.{is_ascii_alphanumeric}
 use Rattle.std.specs.List.{flat_map}
 use Rattle.percent_encoding.specs.Percent.{percent_encode_byte}
 use Rattle.text_out.specs.Escape.{escaped}
 
--- a byte that stands for itself in an address: an unreserved character (RFC 3986, section 2.3), which is an ASCII
--- letter, a digit, `-`, `.`, `_` or `~`, and `/`
+-- a byte that stands for itself in an address: an unreserved character (RFC 3986, section 2.3),
+-- which is an ASCII letter, a digit, `-`, `.`, `_` or `~`, and `/`
 abbrev pub is_plain : ℕ → Bool
 is_plain b = is_ascii_alphanumeric b || (b == 45 || (b == 46 || (b == 95 || (b == 126 || b == 47))))
 
@@ -35,7 +35,8 @@ page_with title body = page_start title ++ body ++ page_end
 -- the line of the list for a package
 unfoldable pub package_line : List ℕ → List ℕ
 package_line path =
-    codes "<li><a href=\"/pkg/" ++ address_of path ++ codes "/\">" ++ escaped path ++ codes "</a></li>\n"
+    codes "<li><a href=\"/pkg/" ++ address_of path ++ codes "/\">"
+    ++ escaped path ++ codes "</a></li>\n"
 
 unfoldable pub list_start : List ℕ
 list_start = codes "<h1>Packages</h1>\n<ul>\n"
@@ -45,7 +46,8 @@ list_end = codes "</ul>\n"
 
 -- the page that lists the packages with these paths
 abbrev pub list_page : List (List ℕ) → List ℕ
-list_page paths = page_with (codes "Packages") (list_start ++ flat_map package_line paths ++ list_end)
+list_page paths =
+    page_with (codes "Packages") (list_start ++ flat_map package_line paths ++ list_end)
 
 -- the body part of a page that says one thing
 unfoldable pub message : List ℕ → List ℕ

@@ -14,26 +14,30 @@ use Rattle.godoc.specs.declared.status.Status.TheVariants as statuses
 use Rattle.godoc.specs.Packages.{ArePackages}
 use Rattle.godoc.specs.Replies.{reply_of}
 
--- the edition with these package paths: they are the packages of sources of the scan under way, scanned while the
--- count of read faults went from before to now
-pub record IsEdition (scans : Option (List Contents)) (before now : ℕ) (paths : List (List ℕ)) : Type 0 where
+-- the edition with these package paths: they are the packages of sources of the scan under way,
+-- scanned while the count of read faults went from before to now
+pub record IsEdition (scans : Option (List Contents)) (before now : ℕ)
+    (paths : List (List ℕ)) : Type 0 where
   pub sources : Sources
   pub scanned : IsScanned scans sources before now
   pub packages : ArePackages sources paths
 
--- What a session over the history of this one edition did: the bytes left and held, where the two ends tell them,
--- before it and after it, and how it ended.
-pub record Serves (paths : List (List ℕ)) (left left_after held held_after : Option (List ℕ)) (result : SessionEnd) : Type 0 where
+-- What a session over the history of this one edition did: the bytes that remain and are held,
+-- where the two ends tell them, before it and after it, and how it ended.
+pub record Serves (paths : List (List ℕ)) (remaining remaining_after : Option (List ℕ))
+    (held held_after : Option (List ℕ)) (result : SessionEnd) : Type 0 where
   -- the bytes read and written, how many requests have an entry, and whether the input ended
   pub read : List ℕ
   pub written : List ℕ
   pub count : ℕ
   pub ended : Bool
-  pub takes : Takes left read left_after
+  pub takes : Takes remaining read remaining_after
   pub adds : Adds held written held_after
-  -- the input ended where nothing is left, unless a read failed
-  pub end_is : IfSome left_after (λ rest. IsTrue ended ↔ ((rest ≡ []) × (result ≢ ends.ReadFault)))
-  -- the stream has one list of requests and one end, and what was written answers them, by the edition with number 1
+  -- the input ended where nothing remains, unless a read failed
+  pub end_is : IfSome remaining_after
+      (λ rest. IsTrue ended ↔ ((rest ≡ []) × (result ≢ ends.ReadFault)))
+  -- the stream has one list of requests and one end, and what was written answers them, by the
+  -- edition with number 1
   pub answers : (requests : List Request) (end : StreamEnd) → Requests read ended requests end
       → IsAnswered reply_of (paths ∷ []) requests end (replicate count 1) written result
 
@@ -46,14 +50,15 @@ status_after ends.ReadFault = statuses.ReadFault
 status_after ends.WriteFault = statuses.WriteFault
 status_after ends.NoMemory = statuses.NoMemory
 
--- what `answer` did where it had an edition: it opened one scan, from which the edition is, and its session gives
--- the status
-pub record Answers (scans scans_after : Option (List Contents)) (before now : ℕ) (left left_after held held_after : Option (List ℕ)) (status : Status) : Type 0 where
+-- what `answer` did where it had an edition: it opened one scan, from which the edition is, and its
+-- session gives the status
+pub record Answers (scans scans_after : Option (List Contents)) (before now : ℕ)
+    (remaining remaining_after held held_after : Option (List ℕ)) (status : Status) : Type 0 where
   pub paths : List (List ℕ)
   pub opened : OpensScan scans scans_after
   pub edition : IsEdition scans_after before now paths
   pub end : SessionEnd
-  pub session : Serves paths left left_after held held_after end
+  pub session : Serves paths remaining remaining_after held held_after end
   pub status_is : status ≡ status_after end
 
 -- a status that `answer` has

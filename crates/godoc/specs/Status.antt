@@ -1,4 +1,5 @@
--- Cited by public clauses: how the program shows the status with which a run ended. The project's own.
+-- Cited by public clauses: how the program shows the status with which a run ended. The project's
+-- own.
 use Rattle.std.specs.Prelude.{ℕ, List, Option, Some, None, codes}
 use Rattle.godoc.specs.declared.status.Status.{Status}
 use Rattle.godoc.specs.declared.status.Status.TheVariants as statuses
@@ -17,7 +18,8 @@ exit_status_of statuses.DoorFault = 8
 -- the line on standard error, where there is one
 abbrev pub message_of : Status → Option (List ℕ)
 message_of statuses.Done = None
-message_of statuses.Usage = Some (codes "usage: godoc ROOT [options] find NAME | answer | gen START PACKAGES | serve PORT")
+message_of statuses.Usage = Some
+    (codes "usage: godoc ROOT [options] find NAME | answer | gen START PACKAGES | serve PORT")
 message_of statuses.TreeFault = Some (codes "godoc: the tree could not be listed")
 message_of (statuses.Limit files bytes) = Some (codes "godoc: too large")
 message_of statuses.ReadFault = Some (codes "godoc: reading failed")

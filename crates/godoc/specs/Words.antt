@@ -6,8 +6,8 @@ use Rattle.godoc.specs.declared.words.Command as commands
 use Rattle.godoc.specs.declared.words.Command.TheVariants as variants
 use Rattle.go_ast.specs.Lexical.{is_letter, is_letter_or_digit, is_among, keywords}
 
--- the root folder of a command line, which begins with the program's name: the word after that, and the empty text
--- where there is none
+-- the root folder of a command line, which begins with the program's name: the word after that, and
+-- the empty text where there is none
 abbrev pub root_of : List (List ℕ) → List ℕ
 root_of line = slice_index_or line 1 []
 
@@ -18,7 +18,8 @@ words_after_root line = drop 2 line
 -- an ASCII letter or `_`, followed by ASCII letters, digits and `_`, that is no keyword
 abbrev pub is_name : List ℕ → Bool
 is_name [] = false
-is_name (c ∷ cs) = (is_letter c && list_all is_letter_or_digit cs) && not (is_among keywords (c ∷ cs))
+is_name (c ∷ cs) =
+    (is_letter c && list_all is_letter_or_digit cs) && not (is_among keywords (c ∷ cs))
 
 -- what the words ask for
 pub data Command : Type 0 where
@@ -31,7 +32,8 @@ pub data Command : Type 0 where
 abbrev pub command_of : List (List ℕ) → Option Command
 command_of [] = None
 command_of (word ∷ []) = if bytes_eq word (codes "answer") then Some answer else None
-command_of (word ∷ name ∷ []) = if bytes_eq word (codes "find") && is_name name then Some (find name) else None
+command_of (word ∷ name ∷ []) =
+    if bytes_eq word (codes "find") && is_name name then Some (find name) else None
 command_of (word ∷ name ∷ other ∷ words) = None
 
 -- a command of the program, by what it asks for

@@ -46,8 +46,8 @@ impl Edition {
     }
 }
 
-/// Opens a scan of a tree, reads and scans its files one after another, and makes the edition of their
-/// packages. A file that can't be read or scanned names none.
+/// Opens a scan of a tree, reads and scans its files one after another, and makes the edition of
+/// their packages. A file that can't be read or scanned names none.
 ///
 /// # Errors
 ///

@@ -91,7 +91,8 @@ pub(crate) fn find<T: Tree, O: Sink>(
         (result ≡ Err Stop.TreeFault) }
     ensures write_faults { IsCaused (O.write_faults out.old) (O.write_faults out.new)
         (result ≡ Err Stop.WriteFault) }
-    ensures one_scan { result ≢ Err Stop.TreeFault → OpensScan (T.scans tree.old) (T.scans tree.new) }
+    ensures one_scan { result ≢ Err Stop.TreeFault
+        → OpensScan (T.scans tree.old) (T.scans tree.new) }
     ensures at_most_one_scan { OpensAtMostOne (T.scans tree.old) (T.scans tree.new) }
 {
     if tree.open_scan().is_err() {

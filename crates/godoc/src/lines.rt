@@ -27,7 +27,8 @@ fn is_hit(name: &str, source: &[u8], token: &Token) -> bool
 /// Appends a path, a line, a column and a newline.
 #[tactic(auto, unfolding(crate::specs::Find::position_line))]
 fn push_line(text: &mut Text, path: &str, position: Position) -> Mem<()>
-    ensures { OnOk result (text.new ≡ text.old ++ position_line path.now position.line position.column) }
+    ensures { OnOk result
+        (text.new ≡ text.old ++ position_line path.now position.line position.column) }
 {
     text.push(path)?;
     text.push(":")?;
@@ -68,7 +69,8 @@ fn token_lines(
 ) -> Mem<Vec<u8>>
     requires starts { starts.now ≡ line_starts source.now }
     requires within { All (IsWithin (length source.now)) tokens.now }
-    ensures { IfOk result (λ lines. lines.items ≡ hit_lines name.now path.now source.now tokens.now) }
+    ensures { IfOk result
+        (λ lines. lines.items ≡ hit_lines name.now path.now source.now tokens.now) }
 {
     let mut text = Text::new(alloc);
     for token in tokens {

@@ -1,7 +1,8 @@
 //! godoc: a documentation server for trees of Go source.
 //!
-//! `godoc ROOT find NAME` prints where a name stands as an identifier in the Go files under a folder.
-//! `godoc ROOT answer` answers the HTTP requests of standard input by pages on the packages under a folder.
+//! `godoc ROOT find NAME` prints where a name stands as an identifier in the Go files under a
+//! folder. `godoc ROOT answer` answers the HTTP requests of standard input by pages on the packages
+//! under a folder.
 #![tactic(auto)]
 
 ghost use Rattle.std.specs.Prelude.{◌≡◌};

@@ -52,7 +52,8 @@ pub(crate) fn list_page(alloc: Global, packages: &[String]) -> Mem<Vec<u8>>
 /// Appends the list of packages, with its heading.
 #[tactic(auto, unfolding(crate::specs::Pages::list_start, crate::specs::Pages::list_end))]
 fn push_list(alloc: Global, text: &mut Text, packages: &[String]) -> Mem<()>
-    ensures { OnOk result (text.new ≡ text.old ++ (list_start ++ flat_map package_line (map string_bytes packages.now) ++ list_end)) }
+    ensures { OnOk result (text.new ≡ text.old
+        ++ (list_start ++ flat_map package_line (map string_bytes packages.now) ++ list_end)) }
 {
     text.push("<h1>Packages</h1>\n<ul>\n")?;
     push_packages(alloc, text, packages)?;
@@ -61,7 +62,8 @@ fn push_list(alloc: Global, text: &mut Text, packages: &[String]) -> Mem<()>
 
 /// Appends a line for each package.
 fn push_packages(alloc: Global, text: &mut Text, packages: &[String]) -> Mem<()>
-    ensures { OnOk result (text.new ≡ text.old ++ flat_map package_line (map string_bytes packages.now)) }
+    ensures { OnOk result
+        (text.new ≡ text.old ++ flat_map package_line (map string_bytes packages.now)) }
 {
     for path in packages {
         push_package(alloc, text, path.as_str())?;

@@ -17,15 +17,15 @@ use tree_io::Tree;
 
 /// Does what the words of the command line ask for, and tells how that ended.
 ///
-/// The words `find` and an identifier that is no keyword ask for the places of a name. The call opens a scan
-/// of the tree, reads and scans its files one after another, and writes a line `PATH:LINE:COL` for each
-/// identifier with that name, by rising path and offset. Lines and columns are counted from 1, and columns
-/// in bytes. Files that can't be read or scanned are passed over.
+/// The words `find` and an identifier that is no keyword ask for the places of a name. The call
+/// opens a scan of the tree, reads and scans its files one after another, and writes a line
+/// `PATH:LINE:COL` for each identifier with that name, by rising path and offset. Lines and columns
+/// are counted from 1, and columns in bytes. Files that can't be read or scanned are passed over.
 ///
-/// The word `answer` alone asks for the replies to the requests of one connection. The call scans the tree
-/// once, and serves the input and the output as the two ways of the connection, by the packages that the
-/// scan found. It ends with the input, after a request that closes, after what can't be a request, and after
-/// 1,000 replies. All other words give `Usage`.
+/// The word `answer` alone asks for the replies to the requests of one connection. The call scans
+/// the tree once, and serves the input and the output as the two ways of the connection, by the
+/// packages that the scan found. It ends with the input, after a request that closes, after what
+/// can't be a request, and after 1,000 replies. All other words give `Usage`.
 pub fn run<R, T: Tree, I: Source, O: Sink>(
     _rt: &R,
     alloc: Global,
@@ -46,8 +46,8 @@ pub fn run<R, T: Tree, I: Source, O: Sink>(
     ensures answer_statuses { command_of (map string_bytes words.now) ≡ Some answer
         → IsOfAnswer result }
 
-    // A fault comes only where its count rose in this call, or stands at its end, and anything else only where
-    // the count is as it was.
+    // A fault comes only where its count rose in this call, or stands at its end, and anything else
+    // only where the count is as it was.
     ensures list_faults { IsCaused (T.list_faults tree.old) (T.list_faults tree.new)
         (result ≡ Status.TreeFault) }
     ensures read_faults { IsCaused (I.read_faults input.old) (I.read_faults input.new)
@@ -75,8 +75,9 @@ pub fn run<R, T: Tree, I: Source, O: Sink>(
         → (out.new ≡ out.old) ⊎ WritesFront name (T.scans tree.new)
         (T.read_faults tree.old) (T.read_faults tree.new) (O.held out.old) (O.held out.new) }
 
-    // Exactly the text of the connection, by the one edition that the sources of that scan define, or what a
-    // session leaves that fails. Where memory is wanting for the edition nothing is read or written.
+    // Exactly the text of the connection, by the one edition that the sources of that scan define,
+    // or what a session leaves that fails. Where memory is wanting for the edition nothing is read
+    // or written.
     ensures answered { command_of (map string_bytes words.now) ≡ Some answer
         → result ≢ Status.TreeFault → result ≢ Status.NoMemory
         → Answers (T.scans tree.old) (T.scans tree.new)

@@ -75,7 +75,8 @@ fn content_of(verb: Verb, page: &[u8]) -> &[u8]
     }
 }
 
-/// The reply with a page: its head, with the page's length, and the page unless the method is `HEAD`.
+/// The reply with a page: its head, with the page's length, and the page unless the method is
+/// `HEAD`.
 fn reply_with(
     alloc: Global,
     code: Code,

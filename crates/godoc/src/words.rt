@@ -16,8 +16,8 @@ pub(crate) enum Command<'a> {
     Answer,
 }
 
-/// The command that the words ask for: they are `answer` alone, or `find` and an identifier that is no
-/// keyword. `None` for all other words.
+/// The command that the words ask for: they are `answer` alone, or `find` and an identifier that is
+/// no keyword. `None` for all other words.
 pub(crate) fn command_of(words: &[String]) -> Option<Command<'_>>
     ensures { option_map asked result ≡ command_of (map string_bytes words.now) }
 {
@@ -50,7 +50,8 @@ fn are_letters_or_digits(bytes: &[u8]) -> bool
     bytes.iter().all(|b| is_letter_or_digit(*b))
 }
 
-/// Whether a text is an ASCII letter or `_`, followed by ASCII letters, digits and `_`, and no keyword.
+/// Whether a text is an ASCII letter or `_`, followed by ASCII letters, digits and `_`, and no
+/// keyword.
 fn is_name(text: &str) -> bool
     ensures { result ≡ is_name text.now }
 {

@@ -23,9 +23,11 @@ fn read_piece<L: Link>(link: &mut L, heads: &mut Heads) -> Result<(), Failed>
     ensures fed { (bytes : List ℕ) × Takes (L.remaining link.old) bytes (L.remaining link.new)
         × (heads.new.rest ≡ heads.old.rest ++ bytes) }
     ensures room_left { length heads.new.rest ≤ 16384 }
-    ensures progress { OnOk result (IsTrue heads.new.ended ⊎ (length heads.old.rest < length heads.new.rest)) }
+    ensures progress { OnOk result
+        (IsTrue heads.new.ended ⊎ (length heads.old.rest < length heads.new.rest)) }
     ensures end { KnowsEnd (L.remaining link.new) heads.new }
-    ensures failed { OnErr result ((heads.new ≡ heads.old) × (L.remaining link.new ≡ L.remaining link.old)) }
+    ensures failed { OnErr result
+        ((heads.new ≡ heads.old) × (L.remaining link.new ≡ L.remaining link.old)) }
     ensures cause { HasCause (L.read_faults link.old) (L.read_faults link.new) result }
 
     // The other side of the link stays.
@@ -51,7 +53,8 @@ pub(crate) fn next_head<L: Link>(
 ) -> Result<Next, Stop>
     ensures hears { Hears (L.remaining link.old) (L.remaining link.new) heads.old heads.new result }
     ensures decided { result ≡ Ok answers.More → ⊥ }
-    ensures end { KnowsEnd (L.remaining link.old) heads.old → KnowsEnd (L.remaining link.new) heads.new }
+    ensures end { KnowsEnd (L.remaining link.old) heads.old
+        → KnowsEnd (L.remaining link.new) heads.new }
 
     // Why a read failed, and what stays of the link.
     ensures read_faults { IsCaused (L.read_faults link.old) (L.read_faults link.new)

@@ -1,7 +1,9 @@
-//! One connection: its requests are read, and each is answered by the edition that stood when it was begun.
+//! One connection: its requests are read, and each is answered by the edition that stood when it
+//! was begun.
 //!
-//! [`serve_link`] knows neither what an edition is nor what a reply says: a [`Responder`] makes the replies.
-//! `specs/Text.antt` says what the text of a connection is, and `specs/Session.antt` what a session did.
+//! [`serve_link`] knows neither what an edition is nor what a reply says: a [`Responder`] makes the
+//! replies. `specs/Text.antt` says what the text of a connection is, and `specs/Session.antt` what
+//! a session did.
 #![tactic(auto)]
 
 mod incoming;

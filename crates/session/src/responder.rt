@@ -13,8 +13,8 @@ pub trait Responder<E> {
     /// connection closes after the reply.
     ghost reply_of: { Self → ℕ → E → Request → Bool → List ℕ };
 
-    /// Makes the whole reply to a request, of an edition with its number, counted from 1. `last` says
-    /// whether the connection closes after it.
+    /// Makes the whole reply to a request, of an edition with its number, counted from 1. `last`
+    /// says whether the connection closes after it.
     ///
     /// # Errors
     ///
@@ -27,5 +27,6 @@ pub trait Responder<E> {
         request: &Request,
         last: bool,
     ) -> Mem<Vec<u8>>
-        ensures { IfOk result (λ bytes. bytes.items ≡ reply_of self.now number edition.now request.now last) };
+        ensures { IfOk result
+            (λ bytes. bytes.items ≡ reply_of self.now number edition.now request.now last) };
 }

@@ -20,15 +20,16 @@ use std::alloc::Global;
 /// The most requests that are answered on one connection.
 const REQUEST_LIMIT: u64 = 1_000;
 
-/// Serves one connection: reads its requests and answers each, in their order, until the session ends.
+/// Serves one connection: reads its requests and answers each, in their order, until the session
+/// ends.
 ///
-/// Each request that is answered is one entry of the reader, and its reply is made of that entry's edition. A
-/// request that closes gets the last reply, and so does the 1,000th. What can't be a request gets the bad reply,
-/// which has no entry. A reply is made whole before its first byte is written, and a session that has failed
-/// writes no more.
+/// Each request that is answered is one entry of the reader, and its reply is made of that entry's
+/// edition. A request that closes gets the last reply, and so does the 1,000th. What can't be a
+/// request gets the bad reply, which has no entry. A reply is made whole before its first byte is
+/// written, and a session that has failed writes no more.
 ///
-/// The session waits for nobody but the link, and ends on every link: each read takes a byte or ends the input,
-/// and 1,000 heads of at most 8,192 bytes end it.
+/// The session waits for nobody but the link, and ends on every link: each read takes a byte or
+/// ends the input, and 1,000 heads of at most 8,192 bytes end it.
 pub fn serve_link<L: Link, E: Drop, R: Responder<E>>(
     alloc: Global,
     link: &mut L,
@@ -39,8 +40,8 @@ pub fn serve_link<L: Link, E: Drop, R: Responder<E>>(
     ensures session { Session (R.reply_of site.now) (L.remaining link.old) (L.remaining link.new)
         (L.held link.old) (L.held link.new) reader.old reader.new result }
 
-    // On every link a session ends by a fault only where its count rose in this call, or stands at its end, and
-    // by anything else only where the count is as it was.
+    // On every link a session ends by a fault only where its count rose in this call, or stands at
+    // its end, and by anything else only where the count is as it was.
     ensures read_faults { IsCaused (L.read_faults link.old) (L.read_faults link.new)
         (result ≡ SessionEnd.ReadFault) }
     ensures write_faults { IsCaused (L.write_faults link.old) (L.write_faults link.new)
@@ -62,14 +63,16 @@ pub fn serve_link<L: Link, E: Drop, R: Responder<E>>(
     }
 }
 
-// Whether the connection closes after the reply to a request, by the request's number on the connection.
+// Whether the connection closes after the reply to a request, by the request's number on the
+// connection.
 fn is_last(number: u64, request: &Request) -> bool
     ensures { result ≡ is_last number request.now }
 {
     request.close || number == REQUEST_LIMIT
 }
 
-// Answers the requests until the session ends, or until there were as many as one connection may have.
+// Answers the requests until the session ends, or until there were as many as one connection may
+// have.
 fn answer_requests<L: Link, E: Drop, R: Responder<E>>(
     alloc: Global,
     link: &mut L,
@@ -110,7 +113,8 @@ fn answer_requests<L: Link, E: Drop, R: Responder<E>>(
     Ok(SessionEnd::Full)
 }
 
-// Answers one request by the edition of an entry. The reply is whole before its first byte is written.
+// Answers one request by the edition of an entry. The reply is whole before its first byte is
+// written.
 fn answer<L: Link, E, R: Responder<E>>(
     alloc: Global,
     link: &mut L,
@@ -119,7 +123,8 @@ fn answer<L: Link, E, R: Responder<E>>(
     request: &Request,
     last: bool,
 ) -> Result<(), Stop>
-    ensures writes { Writes (R.reply_of site.now entered.now.number (arc_value entered.now.edition) request.now last)
+    ensures writes { Writes
+        (R.reply_of site.now entered.now.number (arc_value entered.now.edition) request.now last)
         (L.held link.old) (L.held link.new) result }
     ensures write_faults { IsCaused (L.write_faults link.old) (L.write_faults link.new)
         (result ≡ Err Stop.WriteFault) }

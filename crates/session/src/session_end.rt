@@ -5,7 +5,8 @@ use plain_data::NoMemory;
 /// Why a session ended.
 #[derive(Clone, Copy, Debug, PartialEq, Eq)]
 pub enum SessionEnd {
-    /// The last request that was answered asked for a close, or the input ended between two requests.
+    /// The last request that was answered asked for a close, or the input ended between two
+    /// requests.
     Closed,
     /// What came can't be a request that is answered, and the bad reply says so.
     Refused,

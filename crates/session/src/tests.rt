@@ -26,7 +26,10 @@ fn letter_of(verb: Verb) -> u8
 }
 
 impl Responder<u8> for Naming {
-    ghost reply_of = { λ _ number edition request last. (48 + number % 10) ∷ edition ∷ (elim request.verb [ verbs.Get ↦ 71 | verbs.Head ↦ 72 | verbs.Other ↦ 79 ]) ∷ request.target ++ (if last then codes " Connection: close" else []) ++ 10 ∷ [] };
+    ghost reply_of = { λ _ number edition request last.
+        (48 + number % 10) ∷ edition
+        ∷ (elim request.verb [ verbs.Get ↦ 71 | verbs.Head ↦ 72 | verbs.Other ↦ 79 ])
+        ∷ request.target ++ (if last then codes " Connection: close" else []) ++ 10 ∷ [] };
 
     fn reply(
         &self,

@@ -1,4 +1,5 @@
--- Cited by public contracts. What reading the files of a scan one after another gives. The project's own.
+-- Cited by public contracts. What reading the files of a scan one after another gives. The
+-- project's own.
 use Rattle.std.specs.Prelude.{◌≡◌, ℕ, ◌≤◌, List, length, Option, All, IfSome, ⊤}
 use Rattle.plain_data.specs.Causes.{RoseBy}
 use Rattle.tree_io.specs.Path.{paths_of}
@@ -8,14 +9,18 @@ use Rattle.tree_io.specs.declared.tree.TheConstants.{MAX_FILE_BYTES}
 use Rattle.tree_io.specs.declared.tree.Entry.{Entry}
 use Rattle.tree_io.specs.declared.tree.Entry.TheVariants.{Bytes}
 
--- the sources that reads of these paths have given, while the count of read faults went from before to now
-pub record IsReadSoFar (scans : Option (List Contents)) (paths : List (List ℕ)) (sources : Sources) (before now : ℕ) : Type 0 where
+-- the sources that reads of these paths have given, while the count of read faults went from before
+-- to now
+pub record IsReadSoFar (scans : Option (List Contents)) (paths : List (List ℕ)) (sources : Sources)
+    (before now : ℕ) : Type 0 where
   pub same_paths : paths_of sources ≡ paths
   pub entries : IfSome scans (λ told. All (IsFrom (under_way told)) sources)
   pub few_unread : RoseBy (unread_count sources) before now
 
--- sources of the scan under way: a set of sources, and where scans are told it is scanned from the last of them
-pub record IsScanned (scans : Option (List Contents)) (sources : Sources) (before now : ℕ) : Type 0 where
+-- sources of the scan under way: a set of sources, and where scans are told it is scanned from the
+-- last of them
+pub record IsScanned (scans : Option (List Contents)) (sources : Sources)
+    (before now : ℕ) : Type 0 where
   pub valid : IsSources sources
   pub told : IfSome scans (λ told. IsScannedFrom sources (under_way told) before now)
 
