@@ -8,7 +8,7 @@ ghost use Rattle.tree_io.specs.Sources.{bytes_at};
 ghost use Rattle.godoc.specs.Outcome.{OpensAtMostOne, WritesFound, WritesFront};
 ghost use Rattle.godoc.specs.Steps.{WritesPart, WritesSome};
 
-use crate::lines::entry_lines;
+use crate::hit_lines::entry_lines;
 use crate::status::Stop;
 use go_ast::{IoFail, Txt};
 use link_io::{Sink, write_whole};

@@ -13,7 +13,7 @@ mod answer;
 mod command_line;
 mod edition;
 mod find;
-mod lines;
+mod hit_lines;
 mod pages;
 mod position;
 mod run;

@@ -2,7 +2,7 @@ use Rattle.std.proofs.Common.{◌≡◌, true, arith}
 use Rattle.godoc.proofs.Positions.{AreLineStarts-line_starts, position_is}
 use Rattle.godoc.proofs.HitLines.{line_for_hit}
 use Rattle.godoc.specs.Find.{is_hit}
-use Rattle.godoc.proofs.lines.push_hit.Goals as goal
+use Rattle.godoc.proofs.hit_lines.push_hit.Goals as goal
 
 pub position_of-requires : goal.position_of-requires
 position_of-requires c = rw c.requires.starts (AreLineStarts-line_starts c.args.source.now)
