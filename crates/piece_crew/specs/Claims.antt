@@ -1,15 +1,16 @@
--- Seats at a claim word and the numbers that they claim, as public clauses speak of them. The project's own.
+-- Seats at a claim word and the numbers that they claim, as public clauses speak of them.
+-- The project's own.
 use Rattle.std.specs.Prelude.{◌≡◌, ℕ, ◌+◌, ◌<◌, ◌≤◌, List, [], ◌∷◌, ◌++◌, length, All, if◌then◌else◌, ◌==◌, nat_lt}
 use Rattle.atomic_table.specs.Seated.{TableId}
 
--- A claim word: which one it is, how many numbers there are to claim, and how many seats were made at it.
+-- A claim word: which one it is, how many numbers there are to claim, and how many seats were made.
 pub record Word : Type 0 where
   pub id : TableId
   pub total : ℕ
   pub seats : ℕ
 
--- A seat, by the numbers that its own steps found on its word, in their order. A step adds one to the word and finds
--- what the word was.
+-- A seat, by the numbers that its own steps found on its word, in their order. A step adds one to the
+-- word and finds what the word was.
 pub record Seat : Type 0 where
   pub word : Word
   -- those below the total: its claims

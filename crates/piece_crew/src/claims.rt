@@ -28,13 +28,14 @@ impl Model for ClaimSeat {
 }
 
 impl ClaimSeat {
-    /// Claims the next number, or answers `None` exactly where this step found the word at the total or
-    /// past it. It adds one to the word in a single step, waits for nobody and takes no memory.
+    /// Claims the next number, or answers `None` exactly where this step found the word at the total
+    /// or past it. It adds one to the word in a single step, waits for nobody and takes no memory.
     pub fn claim(&mut self) -> Option<u64>
         requires open { IsOpen self.old }
         ensures claimed { IfSome result (λ number. self.new ≡ with_claim self.old number) }
         ensures below { IfSome result (λ number. number < self.old.word.total) }
-        ensures rising { IfSome result (λ number. All (λ earlier. earlier < number) self.old.claimed) }
+        ensures rising { IfSome result
+            (λ number. All (λ earlier. earlier < number) self.old.claimed) }
         ensures ended { IfNone result (FoundPast self.old self.new) }
 
         // What stays, whatever the answer.
@@ -78,9 +79,9 @@ impl Claims {
         Ok(Seq::from_vec(all))
     }
 
-    /// Joins all the seats of a claim word and answers how many numbers they claimed: the claims are the
-    /// numbers below the answer, each once, and the answer is the total where each seat has had its None.
-    /// It takes no memory.
+    /// Joins all the seats of a claim word and answers how many numbers they claimed: the claims are
+    /// the numbers below the answer, each once, and the answer is the total where each seat has had
+    /// its `None`. It takes no memory.
     pub fn close(seats: Seq<ClaimSeat>) -> u64
         requires { AreAllSeats seats }
         ensures claims { IsEachBelow result (claims_of seats) }

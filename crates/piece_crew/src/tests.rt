@@ -72,8 +72,8 @@ fn outputs_stand_in_the_order_of_the_jobs(rt: HostRuntime) -> Result<(), Fail> {
     Ok(())
 }
 
-// Four jobs, of which one waits until the other three have ended. Each gives its number, and one that waits
-// too long gives another.
+// Four jobs, of which one waits until the other three have ended. Each gives its number, and one that
+// waits too long gives another.
 #[derive(Drop)]
 struct Waiting {
     waits: u32,
@@ -108,7 +108,7 @@ impl Job for Waiting {
     }
 }
 
-// No fixed division of the jobs between two workers, and no order on one thread, ends all four runs.
+// No fixed division of the jobs between two workers, and no order on one thread, ends all four.
 #[test]
 fn a_job_may_wait_until_all_others_have_ended(rt: HostRuntime) -> Result<(), Fail> {
     for waits in 0..4 {
