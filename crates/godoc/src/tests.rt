@@ -139,19 +139,3 @@ fn takes_an_underscore_for_a_name(rt: HostRuntime) -> Result<(), Fail> {
     assert_eq!(rt; written.as_slice(), b"e.go:1:5\n".as_slice());
     Ok(())
 }
-
-#[test]
-fn ends_with_its_exit_status(rt: HostRuntime) {
-    for (status, code) in [
-        (Status::Done, 0),
-        (Status::Usage, 2),
-        (Status::TreeFault, 3),
-        (Status::Limit { files: 1, bytes: 0 }, 4),
-        (Status::ReadFault, 5),
-        (Status::WriteFault, 6),
-        (Status::NoMemory, 7),
-        (Status::DoorFault, 8),
-    ] {
-        assert_eq!(rt; status.exit_status(), code);
-    }
-}
