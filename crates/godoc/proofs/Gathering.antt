@@ -20,8 +20,7 @@ use Rattle.tree_io.specs.Path.{Belongs, IsRising}
 use Rattle.tree_io.specs.Entries.{IsReadSoFar}
 use Rattle.tree_io.specs.Scans.{IsListed}
 use Rattle.tree_io.specs.Sources.{Contents, Sources}
-use Rattle.tree_io.proofs.Laws.{IsReadSoFar-append, IsReadSoFar-nothing, IsScanned-read}
-use Rattle.tree_io.proofs.FileMaps.{IsRising-strings}
+use Rattle.tree_io.proofs.Laws.{IsReadSoFar-append, IsReadSoFar-nothing, IsRising-strings, IsScanned-read}
 use Rattle.godoc.specs.Packages.{ArePackages, HasPackageClause, HasPackage, NamesPackage, package_path}
 use Rattle.godoc.specs.Serving.{IsEdition}
 use Rattle.godoc.specs.Steps.{IsGathered}

@@ -16,7 +16,9 @@ use Rattle.tree_io.specs.declared.tree.Entry.{Entry}
 use Rattle.tree_io.specs.declared.tree.Entry.TheVariants.{Bytes, Large}
 use Rattle.tree_io.proofs.Reading.{IsKnown-listed, IsReadSoFar-none, IsScannedFrom-read, IsSources-read}
 
-pub unread_count-append : (xs ys : Sources) → unread_count (xs ++ ys) ≡ unread_count xs + unread_count ys
+pub use Rattle.tree_io.proofs.FileMaps.{IsRising-strings}
+
+unread_count-append : (xs ys : Sources) → unread_count (xs ++ ys) ≡ unread_count xs + unread_count ys
 unread_count-append xs ys = sum_by-append (λ s. cond (is_unread s.1) 1 0) xs ys
 
 RoseBy-add : (m n a b c : ℕ) → RoseBy m a b → RoseBy n b c → RoseBy (m + n) a c

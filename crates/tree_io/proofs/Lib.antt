@@ -1,5 +1,5 @@
-pub mod Segments
-pub mod FileMaps
-pub mod Reading
-pub mod Dedup
 pub mod Laws
+mod Dedup
+mod FileMaps
+mod Reading
+mod Segments
