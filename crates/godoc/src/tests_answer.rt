@@ -188,57 +188,21 @@ fn lists_the_folders_that_name_a_package(rt: HostRuntime) -> Result<(), Fail> {
 
 #[test]
 fn tells_which_part_failed(rt: HostRuntime) -> Result<(), Fail> {
-    let whole = Given::input(LIST_REQUEST);
-    for (given, wanted, length) in [
-        (
-            Given {
-                failing_calls: &[1],
-                ..whole
-            },
-            Status::TreeFault,
-            0,
-        ),
-        (
-            Given {
-                failing_calls: &[2],
-                ..whole
-            },
-            Status::TreeFault,
-            0,
-        ),
-        (
-            Given {
-                failing_reads: &[1],
-                ..whole
-            },
-            Status::ReadFault,
-            0,
-        ),
-        (
-            Given {
-                failing_reads: &[2],
-                ..whole
-            },
-            Status::ReadFault,
-            229,
-        ),
-        (
-            Given {
-                failing_writes: &[1],
-                ..whole
-            },
-            Status::WriteFault,
-            0,
-        ),
-        (
-            Given {
-                failing_writes: &[2],
-                ..whole
-            },
-            Status::WriteFault,
-            100,
-        ),
+    let (none, first, second): (&[u64], &[u64], &[u64]) = (&[], &[1], &[2]);
+    for (failing_calls, failing_reads, failing_writes, wanted, length) in [
+        (first, none, none, Status::TreeFault, 0),
+        (second, none, none, Status::TreeFault, 0),
+        (none, first, none, Status::ReadFault, 0),
+        (none, second, none, Status::ReadFault, 229),
+        (none, none, first, Status::WriteFault, 0),
+        (none, none, second, Status::WriteFault, 100),
     ] {
+        let given = Given {
+            failing_calls,
+            failing_reads,
+            failing_writes,
+            ..Given::input(LIST_REQUEST)
+        };
         let (status, written) = answer_to(&rt, given)?;
         assert_eq!(rt; status, wanted);
         assert_eq!(rt; written.len(), length);
