@@ -1,7 +1,7 @@
 //! Where bytes come from and where they go: sources, sinks and links between two peers.
 //!
-//! Each trait has a written meaning, and the forms in memory tell it whole. The adapters over the standard
-//! streams tell nothing of the bytes that pass.
+//! Each trait has a written meaning, and the forms in memory tell it whole. The adapters over the
+//! standard streams tell nothing of the bytes that pass.
 #![tactic(auto)]
 
 mod link;

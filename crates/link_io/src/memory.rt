@@ -13,7 +13,8 @@ use plain_data::{Failed, FaultCount, NumberedCalls};
 use std::alloc::Global;
 use std::marker::Model;
 
-/// A source in memory. Its reads are numbered from 1, up to 2 ^ 64 - 1, where the number stands still.
+/// A source in memory. Its reads are numbered from 1, up to 2 ^ 64 - 1, where the number stands
+/// still.
 #[derive(Debug, Drop)]
 pub struct MemSource {
     bytes: Vec<u8>,
@@ -41,8 +42,9 @@ impl Model for MemSource {
 }
 
 impl MemSource {
-    /// A source of these bytes. `cuts` are byte offsets from the start that no read passes, and `failing`
-    /// the numbers of the reads that fail; either list may stand in any order. It takes no memory.
+    /// A source of these bytes. `cuts` are byte offsets from the start that no read passes, and
+    /// `failing` the numbers of the reads that fail; either list may stand in any order. It takes
+    /// no memory.
     pub fn new(bytes: Vec<u8>, cuts: Vec<u64>, failing: Vec<u64>) -> MemSource
         ensures { result ≡ record {
           bytes = bytes.items;
@@ -67,8 +69,9 @@ impl Source for MemSource {
 
     ghost read_faults = { λ source. source.faults };
 
-    /// Moves as many bytes as the buffer takes, up to the next cut or the end. It fails exactly where its
-    /// number is one of those that fail, or 2 ^ 64 - 1. What stands behind the bytes in the buffer stays.
+    /// Moves as many bytes as the buffer takes, up to the next cut or the end. It fails exactly
+    /// where its number is one of those that fail, or 2 ^ 64 - 1. What stands behind the bytes in
+    /// the buffer stays.
     fn read(&mut self, buf: &mut [u8]) -> Result<usize, Failed>
         ensures reads { Reads self.old self.new buf.old buf.new result }
         ensures bytes { ReadsInto (remaining_of self.old) (remaining_of self.new) buf.new result }
@@ -81,7 +84,8 @@ impl Source for MemSource {
     }
 }
 
-/// A sink in memory. Its writes are numbered from 1, up to 2 ^ 64 - 1, where the number stands still.
+/// A sink in memory. Its writes are numbered from 1, up to 2 ^ 64 - 1, where the number stands
+/// still.
 #[derive(Debug, Drop)]
 pub struct MemSink {
     held: Vec<u8>,
@@ -107,8 +111,8 @@ impl Model for MemSink {
 }
 
 impl MemSink {
-    /// An empty sink that takes at most `most` bytes a write. `failing` are the numbers of the writes that
-    /// fail, in any order. It takes no memory until it grows.
+    /// An empty sink that takes at most `most` bytes a write. `failing` are the numbers of the
+    /// writes that fail, in any order. It takes no memory until it grows.
     pub fn new(alloc: Global, most: usize, failing: Vec<u64>) -> MemSink
         requires { 0 < most }
         ensures { result ≡ record {
@@ -139,9 +143,9 @@ impl Sink for MemSink {
 
     ghost write_faults = { λ sink. sink.faults };
 
-    /// Takes the piece, or as many of its first bytes as one write takes. It fails where its number is one
-    /// of those that fail, or 2 ^ 64 - 1; else only where the bytes that are held have to grow and find no
-    /// memory, which is a counted fault as well.
+    /// Takes the piece, or as many of its first bytes as one write takes. It fails where its number
+    /// is one of those that fail, or 2 ^ 64 - 1; else only where the bytes that are held have to
+    /// grow and find no memory, which is a counted fault as well.
     fn write(&mut self, piece: &[u8]) -> Result<usize, Failed>
         ensures writes { Writes self.old self.new piece.now result }
         ensures bytes { WritesFrom (held_of self.old) (held_of self.new) piece.now result }

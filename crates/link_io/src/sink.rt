@@ -19,15 +19,15 @@ pub trait Sink {
     /// What writes leave alone: the other side of a link.
     ghost beside: { Self → Beside } = { λ _. nothing };
 
-    /// The ghost names of the references that stand in the sink. Calls leave them, so that whoever lent
-    /// them knows what became of the values behind them.
+    /// The ghost names of the references that stand in the sink. Calls leave them, so that whoever
+    /// lent them knows what became of the values behind them.
     ghost references: { Self → List ℕ } = { λ _. [] };
 
-    /// Adds the first bytes of a piece behind those that are held, and returns how many: from 1 to the
-    /// piece's length, and 0 for an empty piece.
+    /// Adds the first bytes of a piece behind those that are held, and returns how many: from 1 to
+    /// the piece's length, and 0 for an empty piece.
     ///
-    /// A write that fails adds no byte. It returns [`Failed`] only where the count of faults rose in
-    /// this call, or stands at its end; a write that succeeds leaves the count.
+    /// A write that fails adds no byte. It returns [`Failed`] only where the count of faults rose
+    /// in this call, or stands at its end; a write that succeeds leaves the count.
     fn write(&mut self, piece: &[u8]) -> Result<usize, Failed>
         ensures bytes { WritesFrom (held self.old) (held self.new) piece.now result }
         ensures cause { HasCause (write_faults self.old) (write_faults self.new) result }
@@ -36,9 +36,9 @@ pub trait Sink {
 
 /// Adds a whole piece, by as many writes as it takes. It takes no memory.
 ///
-/// After [`Failed`] the sink has a first part of the piece, which ends before the piece does. `Failed`
-/// is returned only where the count of faults rose in this call, or stands at its end; where the whole
-/// piece was written, no write failed.
+/// After [`Failed`] the sink has a first part of the piece, which ends before the piece does.
+/// `Failed` is returned only where the count of faults rose in this call, or stands at its end;
+/// where the whole piece was written, no write failed.
 pub fn write_whole<O: Sink>(out: &mut O, piece: &[u8]) -> Result<(), Failed>
     ensures ok { OnOk result (Adds (O.held out.old) piece.now (O.held out.new)) }
     ensures failed { OnErr result (AddsPart (O.held out.old) piece.now (O.held out.new)) }

@@ -19,16 +19,17 @@ pub trait Source {
     /// What reads leave alone: the other side of a link.
     ghost beside: { Self → Beside } = { λ _. nothing };
 
-    /// The ghost names of the references that stand in the source. Calls leave them, so that whoever
-    /// lent them knows what became of the values behind them.
+    /// The ghost names of the references that stand in the source. Calls leave them, so that
+    /// whoever lent them knows what became of the values behind them.
     ghost references: { Self → List ℕ } = { λ _. [] };
 
-    /// Moves the first bytes that remain to the front of a buffer, and returns how many, at most the
-    /// buffer's length. `Ok(0)` for a buffer that isn't empty is the end of the input: where the bytes
-    /// are told, it comes exactly where none remain. What stands behind the bytes in the buffer is open.
+    /// Moves the first bytes that remain to the front of a buffer, and returns how many, at most
+    /// the buffer's length. `Ok(0)` for a buffer that isn't empty is the end of the input: where
+    /// the bytes are told, it comes exactly where none remain. What stands behind the bytes in the
+    /// buffer is open.
     ///
-    /// A read that fails takes no byte. It returns [`Failed`] only where the count of faults rose in
-    /// this call, or stands at its end; a read that succeeds leaves the count.
+    /// A read that fails takes no byte. It returns [`Failed`] only where the count of faults rose
+    /// in this call, or stands at its end; a read that succeeds leaves the count.
     fn read(&mut self, buf: &mut [u8]) -> Result<usize, Failed>
         ensures bytes { ReadsInto (remaining self.old) (remaining self.new) buf.new result }
         ensures cause { HasCause (read_faults self.old) (read_faults self.new) result }

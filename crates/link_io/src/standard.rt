@@ -70,8 +70,8 @@ impl<R: Print> Sink for StdSink<R> {
 
     ghost write_faults = { λ sink. sink.faults };
 
-    /// Writes again where a signal interrupts the write, and counts every other error, and a write of
-    /// no byte of a piece that has some.
+    /// Writes again where a signal interrupts the write, and counts every other error, and a write
+    /// of no byte of a piece that has some.
     fn write(&mut self, piece: &[u8]) -> Result<usize, Failed> {
         let written = write_to(&mut io::writer(&self.rt), piece);
         if written.is_err() {
@@ -115,8 +115,8 @@ pub(crate) fn read_from<R: Read>(reader: &mut R, buf: &mut [u8]) -> Result<usize
     Err(Failed)
 }
 
-/// Writes once that counts: again where a signal interrupts the write. A write of no byte of a piece
-/// that has some is a failure.
+/// Writes once that counts: again where a signal interrupts the write. A write of no byte of a
+/// piece that has some is a failure.
 pub(crate) fn write_to<W: Write>(writer: &mut W, piece: &[u8]) -> Result<usize, Failed>
     ensures count { WritesAtMost result piece.now }
     ensures progress { IfOk result (λ n. 0 < length piece.now → 0 < n) }

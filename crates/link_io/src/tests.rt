@@ -18,7 +18,8 @@ enum End {
     WriteFault,
 }
 
-// What code over any link knows with no second look: a read and a write each change their own side alone.
+// What code over any link knows with no second look: a read and a write each change their own side
+// alone.
 fn echo<L: Link>(link: &mut L) -> Result<(), End>
     ensures moved { OnOk result ((bytes : List ℕ) × Takes (L.remaining link.old) bytes (L.remaining link.new)
         × Adds (L.held link.old) bytes (L.held link.new)) }

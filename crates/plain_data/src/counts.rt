@@ -5,7 +5,8 @@ ghost use Rattle.plain_data.specs.Counts.{NextFails, called, one_more};
 
 use std::marker::Model;
 
-/// How often calls of an object have failed, seen by contracts as that number. At 2^64 - 1 it stands still.
+/// How often calls of an object have failed, seen by contracts as that number. At 2^64 - 1 it
+/// stands still.
 #[derive(Debug, Drop)]
 pub struct FaultCount {
     faults: u64,
@@ -43,8 +44,8 @@ impl FaultCount {
     }
 }
 
-/// The calls of an object in memory, numbered from 1, and the numbers of those that fail. The number stays
-/// at 2^64 - 1, and each call there fails.
+/// The calls of an object in memory, numbered from 1, and the numbers of those that fail. The
+/// number stays at 2^64 - 1, and each call there fails.
 #[derive(Debug, Drop)]
 pub struct NumberedCalls {
     made: u64,

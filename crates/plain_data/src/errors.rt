@@ -12,8 +12,8 @@ pub struct NoMemory;
 /// What a call answers that can fail only for want of memory.
 pub type Mem<T> = Result<T, NoMemory>;
 
-/// A call to the outside failed: the count of faults of the object that was called rose, or stands at the
-/// end of its type.
+/// A call to the outside failed: the count of faults of the object that was called rose, or stands
+/// at the end of its type.
 #[derive(Clone, Copy, Debug, PartialEq, Eq)]
 pub struct Failed;
 

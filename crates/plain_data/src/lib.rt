@@ -1,8 +1,9 @@
-//! Plain data that every layer shares: sequences, texts and byte strings, and the answers of calls that
-//! run out of memory or reach outside.
+//! Plain data that every layer shares: sequences, texts and byte strings, and the answers of calls
+//! that run out of memory or reach outside.
 //!
-//! The types here have no hidden pointer in what contracts see of them: a sequence is its list, a text
-//! and a byte string are their bytes. `specs/Causes.antt` says what a count of faults says of an answer.
+//! The types here have no hidden pointer in what contracts see of them: a sequence is its list, a
+//! text and a byte string are their bytes. `specs/Causes.antt` says what a count of faults says of
+//! an answer.
 #![tactic(auto)]
 
 mod counts;

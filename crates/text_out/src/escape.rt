@@ -7,7 +7,8 @@ use std::alloc::AllocError;
 
 /// The reference that stands for a byte, or `None` where the byte stands for itself.
 fn reference_of(byte: u8) -> Option<&'static [u8]>
-    ensures { MatchOption result (escape_of byte ≡ byte ∷ []) (λ reference. escape_of byte ≡ reference.now) }
+    ensures { MatchOption result (escape_of byte ≡ byte ∷ [])
+        (λ reference. escape_of byte ≡ reference.now) }
 {
     match byte {
         b'&' => Some(b"&amp;"),

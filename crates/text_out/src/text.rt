@@ -58,7 +58,8 @@ impl Text {
         Ok(())
     }
 
-    /// Appends a number in decimal digits, with no leading zero. After `NoMemory` the text is as it was.
+    /// Appends a number in decimal digits, with no leading zero. After `NoMemory` the text is as it
+    /// was.
     pub fn push_number(&mut self, n: u64) -> Mem<()>
         ensures ok { OnOk result (self.new ≡ self.old ++ decimal n) }
         ensures err { OnErr result (self.new ≡ self.old) }

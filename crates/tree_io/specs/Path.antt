@@ -1,4 +1,4 @@
--- Which paths belong to a tree of Go sources, and in what order they stand. The rule is the project's own.
+-- Cited by public contracts. Which paths belong to a tree of Go sources, and in what order they stand. The rule is the project's own.
 use Rattle.std.specs.Prelude.{◌≢◌, ℕ, ◌-◌, ◌<◌, ◌≤◌, ◌==◌, List, [], ◌∷◌, ◌++◌, length, take, map, All, IsTrue, codes, slice_index, nat_eq}
 use Rattle.std.specs.List.{slice_split, ends_with}
 use Rattle.std.specs.List.Sorted.{IsStrictlySortedBy}
@@ -6,9 +6,24 @@ use Rattle.std.specs.Cmp.Lexicographic.{slice_cmp}
 use Rattle.std.specs.Ordering.{nat_cmp}
 use Rattle.tree_io.specs.declared.path.TheConstants.{MAX_PATH_BYTES}
 
+abbrev pub slash : ℕ
+slash = 47
+
+abbrev pub dot : ℕ
+dot = 46
+
+abbrev pub underscore : ℕ
+underscore = 95
+
+abbrev pub space : ℕ
+space = 32
+
+abbrev pub delete : ℕ
+delete = 127
+
 -- the segments of a path, between its slashes
 abbrev pub segments_of : List ℕ → List (List ℕ)
-segments_of path = slice_split (λ b. b == 47) path
+segments_of path = slice_split (λ b. b == slash) path
 
 -- the segments that name folders: all but the last
 abbrev pub folders_of : List ℕ → List (List ℕ)
@@ -16,13 +31,13 @@ folders_of path = take (length (segments_of path) - 1) (segments_of path)
 
 -- a byte that a path may have: no control character of ASCII
 abbrev pub IsPathByte : ℕ → Type 0
-IsPathByte b = (32 ≤ b) × (b ≢ 127)
+IsPathByte b = (space ≤ b) × (b ≢ delete)
 
 -- a segment that is not empty, and begins with neither `.` nor `_`
 pub record IsPlainSegment (segment : List ℕ) : Type 0 where
   pub not_empty : 0 < length segment
-  pub no_dot : slice_index segment 0 ≢ 46
-  pub no_underscore : slice_index segment 0 ≢ 95
+  pub no_dot : slice_index segment 0 ≢ dot
+  pub no_underscore : slice_index segment 0 ≢ underscore
 
 -- a folder whose files belong
 pub record IsSourceFolder (segment : List ℕ) : Type 0 where
@@ -38,12 +53,12 @@ pub record MayLead (name : List ℕ) : Type 0 where
 -- the path of an entry of a folder; the root has the empty path
 abbrev pub joined : List ℕ → List ℕ → List ℕ
 joined [] name = name
-joined (b ∷ folder) name = (b ∷ folder) ++ 47 ∷ name
+joined (b ∷ folder) name = (b ∷ folder) ++ slash ∷ name
 
 -- the path of what stands at a path below a root; the empty path is that of the root itself
 abbrev pub full : List ℕ → List ℕ → List ℕ
 full root [] = root
-full root (b ∷ path) = root ++ 47 ∷ b ∷ path
+full root (b ∷ path) = root ++ slash ∷ b ∷ path
 
 -- a path of a Go file under the root
 pub record Belongs (path : List ℕ) : Type 0 where

@@ -42,8 +42,8 @@ pub(crate) fn length_of_file(metadata: io::Result<Metadata>) -> Result<u64, IoFa
     Ok(metadata.len())
 }
 
-/// The entry of the bytes that remain in a reader. At most [`MAX_FILE_BYTES`] and one byte are read; room
-/// is made at once for so many bytes as are expected.
+/// The entry of the bytes that remain in a reader. At most [`MAX_FILE_BYTES`] and one byte are
+/// read; room is made at once for so many bytes as are expected.
 pub(crate) fn read_entry_from<R: Read + Drop>(
     alloc: Global,
     reader: R,

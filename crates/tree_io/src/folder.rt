@@ -8,12 +8,12 @@ use std::alloc::Global;
 use std::fs::Files;
 use std::marker::Model;
 
-/// A tree in a real folder. It tells nothing of its contents, which may change at any time. It goes to the
-/// files by the runtime that it keeps.
+/// A tree in a real folder. It tells nothing of its contents, which may change at any time. It goes
+/// to the files by the runtime that it keeps.
 ///
-/// Folders are walked whose names don't begin with `.` or `_`, aren't `vendor` or `testdata`, and have no
-/// byte below 0x20 or equal to 0x7F. Symbolic links aren't walked. Whatever is no folder and has a path
-/// that belongs is listed; a link is read as the file that it leads to.
+/// Folders are walked whose names don't begin with `.` or `_`, aren't `vendor` or `testdata`, and
+/// have no byte below 0x20 or equal to 0x7F. Symbolic links aren't walked. Whatever is no folder
+/// and has a path that belongs is listed; a link is read as the file that it leads to.
 #[derive(Drop)]
 pub struct FsTree<R> {
     rt: R,
@@ -38,7 +38,8 @@ impl<R> Model for FsTree<R> {
 impl<R> FsTree<R> {
     ghost use Rattle.std.specs.Prelude.{◌≡◌, string_bytes};
 
-    /// The tree in the folder at `root`. The folder isn't looked at before it is listed. It takes no memory.
+    /// The tree in the folder at `root`. The folder isn't looked at before it is listed. It takes
+    /// no memory.
     pub fn new(rt: R, root: String) -> FsTree<R>
         ensures root { result.root ≡ string_bytes root }
         ensures no_list_fault { result.list_faults ≡ 0 }

@@ -1,7 +1,8 @@
 //! Trees of Go files: what a tree answers, one in memory, and one in a real folder.
 //!
-//! A [`Tree`] is scanned by opening a scan, listing its paths and reading them. Its contracts speak of the
-//! contents of the scans opened so far, where a tree tells them, and of two counts of faults.
+//! A [`Tree`] is scanned by opening a scan, listing its paths and reading them. Its contracts speak
+//! of the contents of the scans opened so far, where a tree tells them, and of two counts of
+//! faults.
 #![tactic(auto)]
 
 mod entries;

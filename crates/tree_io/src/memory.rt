@@ -6,9 +6,10 @@ use plain_data::{Bytes, Failed, FaultCount, IoFail, Mem, NumberedCalls, Seq, Txt
 use std::alloc::Global;
 use std::marker::Model;
 
-/// A tree in memory that tells its contents, in versions: each scan that is opened finds the next version,
-/// and the last one over and over. Its calls are counted over the three methods of [`Tree`], and those whose
-/// numbers were given fail. The count stays at the end of a `u64`, and each call there fails.
+/// A tree in memory that tells its contents, in versions: each scan that is opened finds the next
+/// version, and the last one over and over. Its calls are counted over the three methods of
+/// [`Tree`], and those whose numbers were given fail. The count stays at the end of a `u64`, and
+/// each call there fails.
 #[derive(Drop)]
 pub struct MemTree {
     versions: Vec<Files>,
@@ -41,8 +42,8 @@ impl MemTree {
     ghost use Rattle.std.specs.List.{AllZip};
     ghost use Rattle.tree_io.specs.MemTree.{IsTold};
 
-    /// A tree that tells of each version the paths that belong, each once and with its first bytes, and whose
-    /// calls with the numbers in `failing`, counted from 1, fail. No scan is open yet.
+    /// A tree that tells of each version the paths that belong, each once and with its first bytes,
+    /// and whose calls with the numbers in `failing`, counted from 1, fail. No scan is open yet.
     pub fn new(alloc: Global, versions: Seq<Seq<(Txt, Bytes)>>, failing: Vec<u64>) -> Mem<MemTree>
         ensures told { IfOk result (λ tree. AllZip IsTold versions tree.versions) }
         ensures no_scan { IfOk result (λ tree. tree.scans ≡ []) }

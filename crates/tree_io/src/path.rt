@@ -7,9 +7,10 @@ ghost use Rattle.tree_io.specs.Path.{Belongs, IsPathByte, IsPlainSegment, IsSour
 /// The most bytes that a path may have.
 pub const MAX_PATH_BYTES: usize = 4096;
 
-/// Whether a path, relative to the root and with `/` between its segments, is one of a Go file that is
-/// scanned. It ends in `.go`; it has at most [`MAX_PATH_BYTES`] bytes, and none below 0x20 or equal to 0x7F;
-/// no segment is empty or begins with `.` or `_`; no folder is `vendor` or `testdata`. It takes no memory.
+/// Whether a path, relative to the root and with `/` between its segments, is one of a Go file that
+/// is scanned. It ends in `.go`; it has at most [`MAX_PATH_BYTES`] bytes, and none below 0x20 or
+/// equal to 0x7F; no segment is empty or begins with `.` or `_`; no folder is `vendor` or
+/// `testdata`. It takes no memory.
 pub fn belongs(path: &str) -> bool
     ensures { IsTrue result ↔ Belongs path.now }
 {

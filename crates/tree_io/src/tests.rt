@@ -2,9 +2,13 @@ ghost use Rattle.std.specs.Prelude.{IfOk, IfSome};
 ghost use Rattle.tree_io.specs.Sources.{IsScannedFrom, IsSources};
 ghost use Rattle.tree_io.specs.Scans.{under_way};
 
+use super::file::read_entry_from;
+use super::place::{full_path, join};
+use super::walk::{is_folder, may_lead};
 use super::*;
 use plain_data::{Bytes, IoFail, Mem, Seq, Txt};
 use std::alloc::Global;
+use std::io::{ErrorKind, Read};
 use std::os::unix::fs::symlink;
 use std::test::Fail;
 use std::{env, fs, io};
@@ -78,8 +82,8 @@ fn scan<T: Tree>(alloc: Global, tree: &mut T) -> Result<Seq<(Txt, Entry)>, IoFai
     Ok(sources)
 }
 
-/// One line of a scan: each path, and behind it its bytes, `+` where they are too many, or `-` where they
-/// weren't read.
+/// One line of a scan: each path, and behind it its bytes, `+` where they are too many, or `-`
+/// where they weren't read.
 fn shown<T: Tree>(alloc: Global, tree: &mut T) -> Result<String, Fail> {
     let mut text = String::new(alloc);
     match scan(alloc, tree) {
@@ -231,5 +235,72 @@ fn large_files(rt: HostRuntime) -> Result<(), Fail> {
     let b = tree.read(alloc, "b.go").ok().ok_or("b.go can't be read")?;
     assert!(rt; matches!(&b, Entry::Large));
     leave_folder(&rt, "out/tests/large_files")?;
+    Ok(())
+}
+
+/// A reader that a signal interrupts, that then gives two bytes, and then ends or fails.
+#[derive(Drop)]
+struct Breaking {
+    calls: u64,
+    error: Option<ErrorKind>,
+}
+
+impl Read for Breaking {
+    fn read(&mut self, buf: &mut [u8]) -> io::Result<usize> {
+        self.calls = self.calls.saturating_add(1);
+        match (self.calls, self.error) {
+            (1, _) => Err(io::Error::from(ErrorKind::Interrupted)),
+            (2, _) => Ok(buf.len().min(2)),
+            (_, Some(kind)) => Err(io::Error::from(kind)),
+            (_, None) => Ok(0),
+        }
+    }
+}
+
+/// How many bytes the entry of a reader has that ends so.
+fn length_read(alloc: Global, error: Option<ErrorKind>) -> Result<usize, IoFail> {
+    match read_entry_from(alloc, Breaking { calls: 0, error }, 1)? {
+        Entry::Bytes(bytes) => Ok(bytes.as_slice().len()),
+        Entry::Large | Entry::Unread => Ok(0),
+    }
+}
+
+#[test]
+fn a_file_that_fails_has_no_entry(rt: HostRuntime) {
+    for (error, wanted) in [
+        (None, Ok(2)),
+        (Some(ErrorKind::BrokenPipe), Err(IoFail::Failed)),
+        (Some(ErrorKind::OutOfMemory), Err(IoFail::NoMemory)),
+    ] {
+        assert_eq!(rt; length_read(rt.alloc(), error), wanted);
+    }
+    let kind = Err(io::Error::from(ErrorKind::PermissionDenied));
+    assert_eq!(rt; is_folder(kind), Err(IoFail::Failed));
+}
+
+#[test]
+fn paths_and_names_below_a_root(rt: HostRuntime) -> Result<(), Fail> {
+    let alloc = rt.alloc();
+    for (folder, name, wanted, whole) in [
+        ("", "a.go", "a.go", "src/a.go"),
+        ("x/y", "a.go", "x/y/a.go", "src/x/y/a.go"),
+    ] {
+        let path = join(alloc, folder, name)?;
+        assert_eq!(rt; path.as_str(), wanted);
+        let path = full_path(alloc, "src", path.as_str())?;
+        assert_eq!(rt; path.as_str(), whole);
+    }
+    assert_eq!(rt; full_path(alloc, "src", "")?.as_str(), "src");
+    for (name, wanted) in [
+        ("a", true),
+        ("a.c", true),
+        (".git", false),
+        ("_x", false),
+        ("vendor", false),
+        ("testdata", false),
+        ("a\n", false),
+    ] {
+        assert_eq!(rt; may_lead(name), wanted, "{name:?}");
+    }
     Ok(())
 }

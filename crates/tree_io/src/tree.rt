@@ -17,9 +17,10 @@ pub enum Entry {
     Unread,
 }
 
-/// A tree of Go files, which changes between scans. A scan opens with [`Tree::open_scan`]; the tree is then
-/// listed, and its paths are read. A tree may tell the contents of the scans that were opened, and contracts
-/// then say exactly what is listed and read. It counts its faults, each count up to the end of a `u64`.
+/// A tree of Go files, which changes between scans. A scan opens with [`Tree::open_scan`]; the tree
+/// is then listed, and its paths are read. A tree may tell the contents of the scans that were
+/// opened, and contracts then say exactly what is listed and read. It counts its faults, each count
+/// up to the end of a `u64`.
 pub trait Tree {
     ghost use Rattle.std.specs.Prelude.{◌≡◌, ℕ, List, Option, All, IfOk, OnErr, OnOk};
     ghost use Rattle.plain_data.specs.Causes.{HasCause, HasIoCause};
@@ -36,17 +37,17 @@ pub trait Tree {
     /// How often `read` has failed.
     ghost read_faults: { Self → ℕ };
 
-    /// Opens the next scan. `Failed` is answered only where the count of list faults rose in this call, or
-    /// stands at its end; no scan is opened then.
+    /// Opens the next scan. `Failed` is answered only where the count of list faults rose in this
+    /// call, or stands at its end; no scan is opened then.
     fn open_scan(&mut self) -> Result<(), Failed>
         ensures opens { OnOk result (OpensScan (scans self.old) (scans self.new)) }
         ensures same_scans { OnErr result (scans self.new ≡ scans self.old) }
         ensures cause { HasCause (list_faults self.old) (list_faults self.new) result }
         ensures same_read_faults { read_faults self.new ≡ read_faults self.old };
 
-    /// The paths of the scan under way that belong, strictly rising by their bytes. `Failed` is answered only
-    /// where the count of list faults rose in this call, or stands at its end; `NoMemory` where an allocation
-    /// was refused.
+    /// The paths of the scan under way that belong, strictly rising by their bytes. `Failed` is
+    /// answered only where the count of list faults rose in this call, or stands at its end;
+    /// `NoMemory` where an allocation was refused.
     fn list(&mut self, alloc: Global) -> Result<Seq<Txt>, IoFail>
         ensures told { IfOk result (IsListed (scans self.old)) }
         ensures belong { IfOk result (All Belongs) }
@@ -56,8 +57,8 @@ pub trait Tree {
         ensures same_read_faults { read_faults self.new ≡ read_faults self.old };
 
     /// The file at a path of the scan under way: its bytes, or `Large` where it has more than
-    /// [`MAX_FILE_BYTES`]; never `Unread`. `Failed` is answered only where the count of read faults rose in
-    /// this call, or stands at its end; `NoMemory` where an allocation was refused.
+    /// [`MAX_FILE_BYTES`]; never `Unread`. `Failed` is answered only where the count of read faults
+    /// rose in this call, or stands at its end; `NoMemory` where an allocation was refused.
     fn read(&mut self, alloc: Global, path: &str) -> Result<Entry, IoFail>
         requires { IsKnown (scans self.old) path.now }
         ensures told { IfOk result (IsReadAs (scans self.old) path.now) }

@@ -15,8 +15,8 @@ use std::{fs, io};
 /// The most entries of folders that one walk meets.
 pub(crate) const MAX_ENTRIES: usize = 4_000_000;
 
-/// How far a walk has come: the folders that are still to be read, the paths found so far, and how many
-/// entries of folders were met.
+/// How far a walk has come: the folders that are still to be read, the paths found so far, and how
+/// many entries of folders were met.
 #[derive(Drop)]
 struct Walk {
     folders: Vec<String>,
@@ -81,7 +81,8 @@ fn walk_folder<R: Files + AllocGlobal + Clone + Drop>(
     Ok(())
 }
 
-/// Meets one entry of a folder, which may be an error. One entry more than [`MAX_ENTRIES`] is a fault.
+/// Meets one entry of a folder, which may be an error. One entry more than [`MAX_ENTRIES`] is a
+/// fault.
 fn visit<R: Files + Drop>(
     alloc: Global,
     folder: &str,
@@ -109,7 +110,8 @@ fn visit<R: Files + Drop>(
     Ok(())
 }
 
-/// Whether paths that belong may stand under a name. Other entries are passed over, whatever they are.
+/// Whether paths that belong may stand under a name. Other entries are passed over, whatever they
+/// are.
 pub(crate) fn may_lead(name: &str) -> bool
     ensures { IsTrue result ↔ MayLead name.now }
 {
