@@ -1,13 +1,22 @@
 //! A reader of a history of editions.
 
-ghost use Rattle.std.specs.Prelude.{◌≡◌, ℕ, ◌≤◌, ◌⊎◌, [], ◌∷◌, length, All, IfOk, OnOk, OnErr};
+ghost use Rattle.std.specs.Prelude.{◌≡◌, ℕ, ◌≤◌, ◌⊎◌, Some, true, false, IsTrue, [], ◌∷◌, ◌++◌, length, IfOk, OnOk, OnErr, ◌||◌};
 ghost use Rattle.std.specs.Arc.{arc_value};
-ghost use Rattle.publication.specs.View.{EndsWith, GainsEntry, IsOfOneEdition, IsView, StartsWith, newcomer};
+ghost use Rattle.left_right.specs.Sides.{view as sight};
+ghost use Rattle.publication.specs.View.{EndsWith, GainsEntry, IsView, StartsWith};
+ghost use Rattle.publication.specs.Readers.{IsReader, IsTold, Notes, SeesMore, SeesNothing, history_by, view_by};
 
-use crate::publisher::FIRST;
+use crate::chronicle::Token;
+use crate::knowledge::{Knowledge, joined};
+use crate::rule::{Enters, Looks, PublicationRule, Sight};
+use crate::slot::Slot;
+use core::mem::replace_with;
+use left_right::reader::Reader;
 use plain_data::{Mem, NoMemory};
 use std::marker::Model;
 use std::sync::Arc;
+
+type SlotReader<E> = Reader<Slot<E>, Sight<E>, PublicationRule>;
 
 /// An edition that a reader was given, and its number in the history, counted from 1.
 #[derive(Drop)]
@@ -18,65 +27,243 @@ pub struct Entered<E> {
     pub edition: Arc<E>,
 }
 
-/// One that is given the newest edition at each entry, seen by contracts as its view.
+/// What a publisher told, for a reader to learn, seen by contracts as the history then.
 #[derive(Drop)]
-pub struct EditionReader<E> {
-    edition: Arc<E>,
-    entries: u64,
+pub struct Told<E> {
+    knowledge: Knowledge<E>,
 }
 
-impl<E> Model for EditionReader<E> {
-    ghost use Rattle.std.specs.Prelude.{[], replicate};
-    ghost use Rattle.std.specs.Arc.{arc_value};
-    ghost use Rattle.publication.specs.View.{View, seen_after, view_code};
+impl<E> Model for Told<E> {
+    ghost use Rattle.publication.specs.View.{History, history_code};
+    ghost use Rattle.publication.specs.Readers.{IsTold, history_by};
+
+    ghost Value = { History E };
+
+    ghost coded = { history_code E.code };
+
+    ghost view = { λ told. history_by told.knowledge };
+
+    ghost invariant = { λ told. IsTold told.knowledge };
+}
+
+impl<E> Told<E> {
+    pub(crate) fn new(knowledge: Knowledge<E>) -> Told<E>
+        requires { IsTold knowledge }
+        ensures { result ≡ history_by knowledge }
+    {
+        Told { knowledge }
+    }
+}
+
+/// One that is given the newest edition at each entry, seen by contracts as its view.
+#[derive(Drop)]
+pub struct EditionReader<E: Drop> {
+    reader: SlotReader<E>,
+    knowledge: Knowledge<E>,
+}
+
+impl<E: Drop> Model for EditionReader<E> {
+    ghost use Rattle.left_right.specs.Sides.{view as sight};
+    ghost use Rattle.publication.specs.View.{View, view_code};
+    ghost use Rattle.publication.specs.Readers.{IsReader, view_by};
 
     ghost Value = { View E };
 
     ghost coded = { view_code E.code };
 
-    ghost view = { λ reader. record { opening = record { first = arc_value reader.edition }; seen = seen_after reader.entries (arc_value reader.edition); told = []; entries = replicate reader.entries 1 } };
+    ghost view = { λ reader. view_by (sight reader.reader.place) reader.knowledge };
+
+    ghost invariant = { λ reader. IsReader (sight reader.reader.place) reader.knowledge };
+}
+
+// Whether a slot is as new as what was told.
+fn as_new<E>(slot: &Slot<E>, least: u64) -> Mem<()>
+    ensures { IfOk result (λ _. least ≤ slot.now.number) }
+{
+    if slot.number < least {
+        return Err(NoMemory);
+    }
+    Ok(())
+}
+
+// The edition of a slot, unless it is older than what was told.
+fn edition_of<E>(slot: &Slot<E>, least: u64) -> Mem<Entered<E>>
+    ensures number { IfOk result (λ entered. entered.number ≡ slot.now.number) }
+    ensures edition { IfOk result (λ entered. arc_value entered.edition ≡ arc_value slot.now.edition) }
+    ensures late { IfOk result (λ _. least ≤ slot.now.number) }
+{
+    as_new(slot, least)?;
+    Ok(Entered {
+        number: slot.number,
+        edition: Arc::try_clone(&slot.edition)?,
+    })
+}
+
+// Enters once. It gives back the reader, and what is known then.
+fn enter_once<E: Drop>(
+    reader: SlotReader<E>,
+    known: Token<E>,
+    least: u64,
+) -> (SlotReader<E>, (Token<E>, Mem<Entered<E>>))
+    requires opened { (sight reader.place).opened ≡ true }
+    requires book { known.book ≡ (sight reader.place).seen.book }
+    ensures ok { OnOk result.1.1 (SeesMore (sight reader.place) (sight result.0.place) known result.1.0 × Notes (sight reader.place) (sight result.0.place)) }
+    ensures edition { IfOk result.1.1 (λ entered. (entered.number ≡ length (sight result.0.place).seen.log) × EndsWith (sight result.0.place).seen.log (Some (arc_value entered.edition)) × (least ≤ length (sight result.0.place).seen.log)) }
+    ensures err { OnErr result.1.1 (SeesNothing (sight reader.place) (sight result.0.place) known result.1.0 ⊎ (SeesMore (sight reader.place) (sight result.0.place) known result.1.0 × Notes (sight reader.place) (sight result.0.place))) }
+{
+    match reader.enter_as::<Enters>() {
+        Err(reader) => (reader, (known, Err(NoMemory))),
+        Ok(reading) => {
+            let slot = reading.get();
+            let mut known = known;
+            known.learn(&slot.log);
+            let entered = edition_of(slot, least);
+            (reading.leave(), (known, entered))
+        }
+    }
+}
+
+// Enters once through a reference. It gives back what is known then.
+fn enter_at<E: Drop>(
+    reader: &mut SlotReader<E>,
+    known: Token<E>,
+    least: u64,
+) -> (Token<E>, Mem<Entered<E>>)
+    requires opened { (sight reader.old.place).opened ≡ true }
+    requires book { known.book ≡ (sight reader.old.place).seen.book }
+    ensures ok { OnOk result.1 (SeesMore (sight reader.old.place) (sight reader.new.place) known result.0 × Notes (sight reader.old.place) (sight reader.new.place)) }
+    ensures edition { IfOk result.1 (λ entered. (entered.number ≡ length (sight reader.new.place).seen.log) × EndsWith (sight reader.new.place).seen.log (Some (arc_value entered.edition)) × (least ≤ length (sight reader.new.place).seen.log)) }
+    ensures err { OnErr result.1 (SeesNothing (sight reader.old.place) (sight reader.new.place) known result.0 ⊎ (SeesMore (sight reader.old.place) (sight reader.new.place) known result.0 × Notes (sight reader.old.place) (sight reader.new.place))) }
+{
+    replace_with(reader, known, |reader, known| enter_once(reader, known, least))
+}
+
+// Looks once. It gives back the reader, and what is known then.
+fn look_once<E: Drop>(
+    reader: SlotReader<E>,
+    known: Token<E>,
+    least: u64,
+) -> (SlotReader<E>, (Token<E>, Mem<()>))
+    requires opened { (sight reader.place).opened ≡ true }
+    requires book { known.book ≡ (sight reader.place).seen.book }
+    ensures entries { (sight result.0.place).entries ≡ (sight reader.place).entries }
+    ensures ok { OnOk result.1.1 (SeesMore (sight reader.place) (sight result.0.place) known result.1.0 × (least ≤ length (sight result.0.place).seen.log)) }
+    ensures err { OnErr result.1.1 (SeesNothing (sight reader.place) (sight result.0.place) known result.1.0 ⊎ SeesMore (sight reader.place) (sight result.0.place) known result.1.0) }
+{
+    match reader.enter_as::<Looks>() {
+        Err(reader) => (reader, (known, Err(NoMemory))),
+        Ok(reading) => {
+            let slot = reading.get();
+            let mut known = known;
+            known.learn(&slot.log);
+            let seen = as_new(slot, least);
+            (reading.leave(), (known, seen))
+        }
+    }
+}
+
+// Looks once through a reference. It gives back what is known then.
+fn look_at<E: Drop>(
+    reader: &mut SlotReader<E>,
+    known: Token<E>,
+    least: u64,
+) -> (Token<E>, Mem<()>)
+    requires opened { (sight reader.old.place).opened ≡ true }
+    requires book { known.book ≡ (sight reader.old.place).seen.book }
+    ensures entries { (sight reader.new.place).entries ≡ (sight reader.old.place).entries }
+    ensures ok { OnOk result.1 (SeesMore (sight reader.old.place) (sight reader.new.place) known result.0 × (least ≤ length (sight reader.new.place).seen.log)) }
+    ensures err { OnErr result.1 (SeesNothing (sight reader.old.place) (sight reader.new.place) known result.0 ⊎ SeesMore (sight reader.old.place) (sight reader.new.place) known result.0) }
+{
+    replace_with(reader, known, |reader, known| look_once(reader, known, least))
 }
 
 impl<E: Drop> EditionReader<E> {
-    // A reader of a history that begins with this edition.
-    pub(crate) fn new(edition: Arc<E>) -> EditionReader<E>
-        ensures { result ≡ newcomer (record { first = arc_value edition }) }
+    // A reader that has seen nothing.
+    pub(crate) fn new(reader: SlotReader<E>, knowledge: Knowledge<E>) -> EditionReader<E>
+        requires { IsReader (sight reader.place) knowledge }
+        ensures { result ≡ view_by (sight reader.place) knowledge }
     {
-        EditionReader {
-            edition,
-            entries: 0,
-        }
+        EditionReader { reader, knowledge }
     }
 
     /// Gives the newest edition of the history at this step, which waits for nobody. From then on the reader
-    /// has seen the history as it was at that step, and its view has one entry more.
+    /// has seen the history as it was at that step, and its view has one entry more. No edition is older than
+    /// one that the reader has seen or was told of.
     ///
     /// # Errors
     ///
-    /// `NoMemory` where a further owner of the edition is refused, and after 2 ^ 64 - 1 entries. The view is
-    /// then as it was, or has gained that one entry.
+    /// `NoMemory` where the entry is refused, or a further owner of the edition. The view is then as it was,
+    /// or has gained that one entry.
     pub fn enter(&mut self) -> Mem<Entered<E>>
         // What the entry gives.
         ensures number { IfOk result (λ entered. entered.number ≡ length self.new.seen) }
         ensures newest { IfOk result (λ entered. EndsWith self.new.seen (arc_value entered.edition)) }
         ensures entry { OnOk result (GainsEntry self.old self.new) }
-        ensures informed { OnOk result (All (λ told. StartsWith self.new.seen told) self.old.told) }
+        ensures informed { OnOk result (StartsWith self.new.seen self.old.told) }
+        ensures last { OnOk result (IsTrue self.old.closed → self.new.seen ≡ self.old.told) }
 
         // What stays, whatever the answer.
         ensures refused { OnErr result ((self.new ≡ self.old) ⊎ GainsEntry self.old self.new) }
         ensures opening { self.new.opening ≡ self.old.opening }
         ensures later { StartsWith self.new.seen self.old.seen }
         ensures told { self.new.told ≡ self.old.told }
+        ensures closed { self.new.closed ≡ self.old.closed }
         ensures view { IsView self.new }
-
-        // While there is one edition.
-        ensures one_edition { IsOfOneEdition self.new }
     {
-        let edition = Arc::try_clone(&self.edition)?;
-        self.entries = self.entries.checked_add(1).ok_or(NoMemory)?;
-        Ok(Entered {
-            number: FIRST,
-            edition,
-        })
+        let known = self.knowledge.all.again();
+        let (all, entered) = enter_at(&mut self.reader, known, self.knowledge.number);
+        self.knowledge.all = all;
+        entered
+    }
+
+    /// Sees the history as it is at this step, which waits for nobody, without an entry.
+    ///
+    /// # Errors
+    ///
+    /// `NoMemory` where the step is refused. The reader has then seen what it had seen, or more.
+    pub fn look(&mut self) -> Mem<()>
+        ensures informed { OnOk result (StartsWith self.new.seen self.old.told) }
+        ensures last { OnOk result (IsTrue self.old.closed → self.new.seen ≡ self.old.told) }
+        ensures entries { self.new.entries ≡ self.old.entries }
+        ensures opening { self.new.opening ≡ self.old.opening }
+        ensures later { StartsWith self.new.seen self.old.seen }
+        ensures told { self.new.told ≡ self.old.told }
+        ensures closed { self.new.closed ≡ self.old.closed }
+        ensures view { IsView self.new }
+    {
+        let known = self.knowledge.all.again();
+        let (all, seen) = look_at(&mut self.reader, known, self.knowledge.number);
+        self.knowledge.all = all;
+        seen
+    }
+
+    /// Learns what the publisher told. From then on each entry is at least as new, and where that was told
+    /// for the last time, the reader sees nothing else. It takes no memory.
+    pub fn learn(&mut self, told: Told<E>)
+        requires opening { told.opening ≡ self.old.opening }
+
+        // What is known then.
+        ensures told { StartsWith self.new.told told.editions }
+        ensures last { IsTrue told.closed → self.new.told ≡ told.editions }
+        ensures closed { self.new.closed ≡ (self.old.closed || told.closed) }
+
+        // What was known stays.
+        ensures told_before { StartsWith self.new.told self.old.told }
+        ensures last_before { IsTrue self.old.closed → self.new.told ≡ self.old.told }
+        ensures one_of { (self.new.told ≡ self.old.told) ⊎ (self.new.told ≡ told.editions) }
+        ensures seen { self.new.seen ≡ self.old.seen }
+        ensures entries { self.new.entries ≡ self.old.entries }
+        ensures opening { self.new.opening ≡ self.old.opening }
+        ensures view { IsView self.new }
+    {
+        let Told { knowledge } = told;
+        self.knowledge = joined(&self.knowledge, &knowledge);
+    }
+
+    /// What holds of each view. It does nothing.
+    pub fn is_view(&self)
+        ensures { IsView self.now }
+    {
+        let _ = &self.knowledge;
     }
 }

@@ -1,0 +1,138 @@
+-- What a reader has seen and was told, in editions.
+use Rattle.std.proofs.Common.{◌≡◌, ℕ, ◌-◌, ◌≤◌, ◌⊎◌, true, List, [], ◌∷◌, ◌++◌, length, All, refl, sym, ap, ◌∙◌, subst, inl, inr, ⊎_elim, le_refl, le_trans, length-append, arith, Option, Some, None, Result, Ok, Err, IfOk, OnOk, OnErr}
+use Rattle.std.proofs.lemmas.Bool.{cases_lt}
+use Rattle.std.proofs.lemmas.List.{append-nil}
+use Rattle.std.proofs.lemmas.List.Elements.{All-append, All-cons, All-nil}
+use Rattle.std.proofs.lemmas.List.Sorted.{IsNonDecreasingBy-push}
+use Rattle.std.specs.List.Sorted.{IsNonDecreasing}
+use mathlib.Core.List.{IsPrefix}
+use Rattle.logbook.specs.declared.tokens.Seen.{Seen}
+use Rattle.publication.specs.View.{EndsWith, IsView, StartsWith}
+use Rattle.publication.specs.Chronicle.{editions_of, IsOpen}
+use Rattle.publication.specs.Readers.{IsTold, IsReader, SeesMore, SeesNothing, Notes, view_by}
+use Rattle.publication.specs.declared.knowledge.Knowledge.{Knowledge}
+use Rattle.publication.specs.declared.rule.Sight.{Sight}
+use Rattle.publication.specs.declared.chronicle.Chronicle.{Chronicle}
+use Rattle.publication.proofs.Logs.{prefix_whole, closed_all, prefix_then, prefix_length, shorter, within_closed}
+
+abbrev Token : Type 0 → Type 0
+Token E = Seen (Option E) ℕ Chronicle
+
+-- entries that never fall, and are at most this, go on with more than that
+rises : (entries : List ℕ) (most more : ℕ) → most ≤ more → IsNonDecreasing entries → All (λ number. (1 ≤ number) × (number ≤ most)) entries → IsNonDecreasing (entries ++ more ∷ [])
+rises entries most more le rising below = IsNonDecreasingBy-push (λ x. x) entries more rising (λ d some. le_trans (below (length entries - 1) d (omega arith)).1 le)
+
+all_more : (entries : List ℕ) (most more : ℕ) → most ≤ more → All (λ number. (1 ≤ number) × (number ≤ most)) entries → All (λ number. (1 ≤ number) × (number ≤ more)) entries
+all_more entries most more le below i d lt = let b = below i d lt in (b.0, le_trans b.1 le)
+
+module _ {E : Type 0} where
+  pub editions_append : (front rest : List (Option E)) → editions_of (front ++ rest) ≡ editions_of front ++ editions_of rest
+  editions_append [] rest = refl
+  editions_append (Some edition ∷ front) rest = ap (λ l. edition ∷ l) (editions_append front rest)
+  editions_append (None ∷ front) rest = editions_append front rest
+
+  pub editions_length : (log : List (Option E)) → IsOpen log → length (editions_of log) ≡ length log
+  editions_length [] o = refl
+  editions_length (Some edition ∷ log) o = omega (arith, editions_length log o)
+  editions_length (None ∷ log) o = absurd o
+
+  pub editions_start : (log front : List (Option E)) → StartsWith log front → StartsWith (editions_of log) (editions_of front)
+  editions_start log front s = (editions_of s.0, ap editions_of s.1 ∙ editions_append front s.0)
+
+  pub editions_same : (log same : List (Option E)) → log ≡ same → StartsWith (editions_of log) (editions_of same)
+  editions_same log same e = ([], ap editions_of e ∙ sym (append-nil (editions_of same)))
+
+  pub editions_begin : (front log : List (Option E)) → IsPrefix front log → StartsWith (editions_of log) (editions_of front)
+  editions_begin front log p = editions_start log front (p.0, sym p.1)
+
+  pub editions_end : (log : List (Option E)) (edition : E) → EndsWith log (Some edition) → EndsWith (editions_of log) edition
+  editions_end log edition e = (editions_of e.0, ap editions_of e.1 ∙ editions_append e.0 (Some edition ∷ []))
+
+  -- what was seen begins with the opening, once it is something
+  begun : (seen origin all : List (Option E)) → length origin ≡ 1 → IsPrefix seen all → IsPrefix origin all → (editions_of seen ≡ []) ⊎ StartsWith (editions_of seen) (editions_of origin)
+  begun [] origin all one p q = inl refl
+  begun (entry ∷ seen) origin all one p q = inr (editions_start (entry ∷ seen) origin (shorter origin (entry ∷ seen) all q p (omega (arith, one))))
+
+  pub view_holds : (sight : Sight E) (known : Knowledge E) → IsReader sight known → IsView (view_by sight known)
+  view_holds sight known r =
+      let origin : IsPrefix known.origin.log known.all.log = prefix_then known.origin.log known.told.log known.all.log (r.told.informed.0, sym r.told.informed.1) r.told.begins in record {
+        history = editions_of known.all.log;
+        seen_begins = editions_begin sight.seen.log known.all.log r.begins;
+        told_begins = editions_begin known.told.log known.all.log r.told.begins;
+        informed = editions_start known.told.log known.origin.log r.told.informed;
+        begins = begun sight.seen.log known.origin.log known.all.log r.told.one r.begins origin;
+        rising = r.rising;
+        known = λ i d lt. let k = r.entered i d lt in (k.0, omega (arith, k.1, editions_length sight.seen.log r.unclosed));
+        within = λ closed. editions_begin sight.seen.log known.told.log (within_closed known.told.log known.all.log sight.seen.log (r.told.last closed) r.unclosed r.begins);
+      }
+
+  -- what is known after a step
+  pub told_more : (before after : Sight E) (known : Knowledge E) (all : Token E) → IsTold known → SeesMore before after known.all all → IsTold (record known { all = all })
+  told_more before after known all t s = record {
+    told_book = t.told_book;
+    all_book = s.all_book ∙ t.all_book;
+    one = t.one;
+    first = t.first;
+    number = t.number;
+    informed = t.informed;
+    unclosed = t.unclosed;
+    begins = prefix_then known.told.log known.all.log all.log t.begins s.kept;
+    last = λ closed. closed_all known.told.log all.log t.unclosed s.settled (subst (λ (l : List (Option E)). IsPrefix l all.log) (t.last closed) s.kept);
+  }
+
+  later_length : (before after : Sight E) (known all : Token E) → SeesMore before after known all → length before.seen.log ≤ length after.seen.log
+  later_length before after known all s = prefix_length before.seen.log after.seen.log (s.later.0, sym s.later.1)
+
+  pub looked : (before after : Sight E) (known : Knowledge E) (all : Token E) → IsReader before known → SeesMore before after known.all all → after.entries ≡ before.entries → IsReader after (record known { all = all })
+  looked before after known all r s same = record {
+    told = told_more before after known all r.told s;
+    opened = s.opened;
+    book = s.book ∙ r.book;
+    unclosed = s.unclosed;
+    begins = s.begins;
+    rising = subst IsNonDecreasing (sym same) r.rising;
+    entered = subst (All (λ number. (1 ≤ number) × (number ≤ length after.seen.log))) (sym same) (all_more before.entries (length before.seen.log) (length after.seen.log) (later_length before after known.all all s) r.entered);
+  }
+
+  pub entered : (before after : Sight E) (known : Knowledge E) (all : Token E) → IsReader before known → SeesMore before after known.all all → Notes before after → IsReader after (record known { all = all })
+  entered before after known all r s notes =
+      let P : ℕ → Type 0 = λ number. (1 ≤ number) × (number ≤ length after.seen.log) in
+      let le = later_length before after known.all all s in record {
+        told = told_more before after known all r.told s;
+        opened = s.opened;
+        book = s.book ∙ r.book;
+        unclosed = s.unclosed;
+        begins = s.begins;
+        rising = subst IsNonDecreasing (sym notes) (rises before.entries (length before.seen.log) (length after.seen.log) le r.rising r.entered);
+        entered = subst (All P) (sym notes) (All-append P before.entries (length after.seen.log ∷ []) (all_more before.entries (length before.seen.log) (length after.seen.log) le r.entered) (All-cons P (length after.seen.log) [] (s.some, le_refl (length after.seen.log)) (All-nil P)));
+      }
+
+  -- nothing was seen
+  pub stayed : (before after : Sight E) (known : Knowledge E) (all : Token E) → IsReader before known → SeesNothing before after known.all all → IsReader after (record known { all = all })
+  stayed before after known all r s = subst (λ (sight : Sight E). IsReader sight (record known { all = all })) (sym s.0) (subst (λ (token : Token E). IsReader before (record known { all = token })) (sym s.1) r)
+
+  -- what was told is seen, and nothing else where it is closed
+  pub informed : (before after : Sight E) (known : Knowledge E) (all : Token E) → IsReader before known → SeesMore before after known.all all → known.number ≤ length after.seen.log → StartsWith after.seen.log known.told.log
+  informed before after known all r s late = shorter known.told.log after.seen.log all.log (prefix_then known.told.log known.all.log all.log r.told.begins s.kept) s.begins (omega (arith, late, r.told.number))
+
+  pub last : (before after : Sight E) (known : Knowledge E) (all : Token E) → IsReader before known → SeesMore before after known.all all → known.number ≤ length after.seen.log → known.closed ≡ true → after.seen.log ≡ known.told.log
+  last before after known all r s late closed =
+      let t = told_more before after known all r.told s in
+      prefix_whole after.seen.log known.told.log (within_closed known.told.log all.log after.seen.log (t.last closed) s.unclosed s.begins) (omega (arith, late, r.told.number))
+
+-- how a step went, by what it answered
+pub either_way : {T X : Type 0} (r : Result T X) (N S : Type 0) → OnOk r S → OnErr r (N ⊎ S) → N ⊎ S
+either_way (Ok x) N S ok err = inr ok
+either_way (Err x) N S ok err = err
+
+pub either_seen : {T X : Type 0} (r : Result T X) (N S L : Type 0) → OnOk r (S × L) → OnErr r (N ⊎ S) → N ⊎ S
+either_seen (Ok x) N S L ok err = inr ok.0
+either_seen (Err x) N S L ok err = err
+
+pub on_both : {T X : Type 0} (r : Result T X) (S : Type 0) (P : T → Type 0) (Q : Type 0) → ((x : T) → S → P x → Q) → OnOk r S → IfOk r P → OnOk r Q
+on_both (Ok x) S P Q f ok p = f x ok p
+on_both (Err x) S P Q f ok p = tt
+
+pub if_ok : {T X : Type 0} (r : Result T X) (S : Type 0) (P Q : T → Type 0) → ((x : T) → S → P x → Q x) → OnOk r S → IfOk r P → IfOk r Q
+if_ok (Ok x) S P Q f ok p = f x ok p
+if_ok (Err x) S P Q f ok p = tt

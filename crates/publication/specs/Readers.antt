@@ -1,0 +1,67 @@
+-- For proofs: what a reader knows of its history, by the logs that were reached. No public clause cites it.
+use Rattle.std.specs.Prelude.{◌≡◌, ℕ, ◌≤◌, true, List, [], ◌∷◌, ◌++◌, length, All, Option, None}
+use Rattle.std.specs.List.Sorted.{IsNonDecreasing}
+use mathlib.Core.List.{IsPrefix}
+use Rattle.logbook.specs.declared.tokens.Seen.{Seen}
+use Rattle.publication.specs.View.{History, Opening, StartsWith, View}
+use Rattle.publication.specs.Chronicle.{editions_of, IsOpen, IsSettled}
+use Rattle.publication.specs.declared.rule.Sight.{Sight}
+use Rattle.publication.specs.declared.knowledge.Knowledge.{Knowledge}
+
+module _ {E : Type 0} where
+  abbrev pub opening_by : {P : Type 0} → Seen (Option E) ℕ P → Opening E
+  opening_by origin = record { book = origin.book; editions = editions_of origin.log }
+
+  abbrev pub history_by : Knowledge E → History E
+  history_by known = record { opening = opening_by known.origin; editions = editions_of known.told.log; closed = known.closed }
+
+  abbrev pub view_by : Sight E → Knowledge E → View E
+  view_by sight known = record {
+    opening = opening_by known.origin;
+    seen = editions_of sight.seen.log;
+    told = editions_of known.told.log;
+    closed = known.closed;
+    entries = sight.entries;
+  }
+
+  -- what was told begins all that is known, and where it is closed, nothing but the closing entry follows
+  pub record IsTold (known : Knowledge E) : Type 0 where
+    pub told_book : known.told.book ≡ known.origin.book
+    pub all_book : known.all.book ≡ known.origin.book
+    pub one : length known.origin.log ≡ 1
+    pub first : IsOpen known.origin.log
+    pub number : known.number ≡ length known.told.log
+    pub informed : StartsWith known.told.log known.origin.log
+    pub unclosed : IsOpen known.told.log
+    pub begins : IsPrefix known.told.log known.all.log
+    pub last : known.closed ≡ true → known.all.log ≡ known.told.log ++ None ∷ []
+
+  -- what was seen begins all that is known, too
+  pub record IsReader (sight : Sight E) (known : Knowledge E) : Type 0 where
+    pub told : IsTold known
+    pub opened : sight.opened ≡ true
+    pub book : sight.seen.book ≡ known.origin.book
+    pub unclosed : IsOpen sight.seen.log
+    pub begins : IsPrefix sight.seen.log known.all.log
+    pub rising : IsNonDecreasing sight.entries
+    pub entered : All (λ number. (1 ≤ number) × (number ≤ length sight.seen.log)) sight.entries
+
+  -- a step by which a reader sees more, and so knows more
+  pub record SeesMore {P : Type 0} (before after : Sight E) (known all : Seen (Option E) ℕ P) : Type 0 where
+    pub later : StartsWith after.seen.log before.seen.log
+    pub opened : after.opened ≡ true
+    pub book : after.seen.book ≡ before.seen.book
+    pub unclosed : IsOpen after.seen.log
+    pub some : 1 ≤ length after.seen.log
+    pub all_book : all.book ≡ known.book
+    pub kept : IsPrefix known.log all.log
+    pub begins : IsPrefix after.seen.log all.log
+    pub settled : IsSettled all.log
+
+  -- and notes it
+  abbrev pub Notes : Sight E → Sight E → Type 0
+  Notes before after = after.entries ≡ before.entries ++ length after.seen.log ∷ []
+
+  -- nothing was seen
+  abbrev pub SeesNothing : {P : Type 0} → Sight E → Sight E → Seen (Option E) ℕ P → Seen (Option E) ℕ P → Type 0
+  SeesNothing before after known all = (after ≡ before) × (all ≡ known)
