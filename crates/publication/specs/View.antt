@@ -57,6 +57,14 @@ pub record IsView {E : Type 0} (view : View E) : Type 0 where
   -- nothing is seen beyond a closed history
   pub within : IsTrue view.closed → StartsWith view.told view.seen
 
+-- What two readers have seen, and what they were told, begins one history.
+pub record ShareHistory {E : Type 0} (one other : View E) : Type 0 where
+  pub history : List E
+  pub one_seen : StartsWith history one.seen
+  pub one_told : StartsWith history one.told
+  pub other_seen : StartsWith history other.seen
+  pub other_told : StartsWith history other.told
+
 -- the view gained one entry: that of the newest edition that it has seen
 abbrev pub GainsEntry : {E : Type 0} → View E → View E → Type 0
 GainsEntry old new = new.entries ≡ old.entries ++ length new.seen ∷ []

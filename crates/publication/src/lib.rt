@@ -17,3 +17,6 @@ mod slot;
 pub use opening::open_editions;
 pub use publisher::Publisher;
 pub use reader::{EditionReader, Entered, Told};
+
+#[cfg(test)]
+mod tests;

@@ -3,7 +3,7 @@
 ghost use Rattle.std.specs.Prelude.{◌≡◌, ℕ, ◌≤◌, ◌⊎◌, Some, true, false, IsTrue, [], ◌∷◌, ◌++◌, length, IfOk, OnOk, OnErr, ◌||◌};
 ghost use Rattle.std.specs.Arc.{arc_value};
 ghost use Rattle.left_right.specs.Sides.{view as sight};
-ghost use Rattle.publication.specs.View.{EndsWith, GainsEntry, IsView, StartsWith};
+ghost use Rattle.publication.specs.View.{EndsWith, GainsEntry, IsView, ShareHistory, StartsWith};
 ghost use Rattle.publication.specs.Readers.{IsReader, IsTold, Notes, SeesMore, SeesNothing, history_by, view_by};
 
 use crate::chronicle::Token;
@@ -260,10 +260,20 @@ impl<E: Drop> EditionReader<E> {
         self.knowledge = joined(&self.knowledge, &knowledge);
     }
 
-    /// What holds of each view. It does nothing.
-    pub fn is_view(&self)
+    /// What holds of each view. It does nothing: its contract is the law.
+    pub fn view_holds(&self)
         ensures { IsView self.now }
     {
         let _ = &self.knowledge;
+    }
+
+    /// What two readers of one opening have seen, and what they were told, begins one history. It does nothing:
+    /// its contract is the law.
+    pub fn shares_history(&self, other: &EditionReader<E>)
+        requires { other.now.opening ≡ self.now.opening }
+        ensures { ShareHistory self.now other.now }
+    {
+        let mut all = self.knowledge.all.again();
+        all.learn(&other.knowledge.all);
     }
 }
