@@ -70,8 +70,8 @@ module _ {E : Type 0} where
   adds_goes places log seen entry state home away front unclosed within free =
       let whole : seen ≡ log = prefix_whole seen log front (no_longer places seen log home free) in
       let kept : IsKept ((length places, true) ∷ set places (suc (length seen)) (0, true)) (seen ++ entry ∷ []) =
-          placed places seen entry within (subst (λ (l : List (Option E)). (place : ℕ) → place ≤ length l → (cell places place).1 ≡ true) (sym whole) home)
-          (subst (λ (l : List (Option E)). (place : ℕ) → length l < place → (cell places place).1 ≡ false) (sym whole) away) unclosed in
+      placed places seen entry within (subst (λ (l : List (Option E)). (place : ℕ) → place ≤ length l → (cell places place).1 ≡ true) (sym whole) home)
+      (subst (λ (l : List (Option E)). (place : ℕ) → length l < place → (cell places place).1 ≡ false) (sym whole) away) unclosed in
       let same : either (length places == 0) 0 (length places) ≡ length places = unchanged (length places) (length places == 0) refl in (
         gives,
         entry ∷ [],
@@ -88,7 +88,7 @@ module _ {E : Type 0} where
       → Moves IsKept shown moved 0 (seen, (place_after (length seen), state)) (λ n. either (n == 0) 0 n) (AddsEntry (step 0 0 0 entry) (seen, (place_after (length seen), state)))
   adds_moves seen entry state unclosed cs log kept front away =
       let P : List Cell → Type 0 = λ c. (0 < length c) × ((cell c 0).1 ≡ true)
-          × Goes IsKept shown moved 0 (seen, (place_after (length seen), state)) (λ n. either (n == 0) 0 n) (AddsEntry (step 0 0 0 entry) (seen, (place_after (length seen), state))) c log in
+      × Goes IsKept shown moved 0 (seen, (place_after (length seen), state)) (λ n. either (n == 0) 0 n) (AddsEntry (step 0 0 0 entry) (seen, (place_after (length seen), state))) c log in
       let free = subst (λ (c : List Cell). Away (place_after (length seen)) c) kept.all away refl in
       let within : suc (length seen) < length kept.places = omega (arith, free.0) in
       subst P (sym kept.all) (omega arith, refl, adds_goes kept.places log seen entry state kept.home kept.away front unclosed within free.1)
@@ -138,6 +138,6 @@ module _ {E : Type 0} where
       → Moves IsKept shown moved 0 (seen, (no_nib, state)) (λ n. either (n == entry) (entry + 1) n) (MakesPlace (step 0 entry (entry + 1) ask) (seen, (no_nib, state)))
   makes_moves seen ask state entry cs log kept front away =
       let P : List Cell → Type 0 = λ c. (0 < length c) × ((cell c 0).1 ≡ true)
-          × Goes IsKept shown moved 0 (seen, (no_nib, state)) (λ n. either (n == entry) (entry + 1) n) (MakesPlace (step 0 entry (entry + 1) ask) (seen, (no_nib, state))) c log in
+      × Goes IsKept shown moved 0 (seen, (no_nib, state)) (λ n. either (n == entry) (entry + 1) n) (MakesPlace (step 0 entry (entry + 1) ask) (seen, (no_nib, state))) c log in
       let within : length log < length kept.places = grown kept.places log kept.home in
       subst P (sym kept.all) (omega arith, refl, makes_goes kept.places log seen ask state entry kept.home kept.away kept.settled within (length kept.places == entry) refl)

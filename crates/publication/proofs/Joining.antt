@@ -34,14 +34,14 @@ module _ {E : Type 0} where
   pub longer_mine : (mine other : Knowledge E) (all log : List (Option E)) (number : ℕ) → Meet mine other all → Longer mine other log number → StartsWith log mine.told.log
   longer_mine mine other all log number m longer = ⊎_elim
       (λ (t : (mine.number < other.number) × (log ≡ other.told.log) × (number ≡ other.number)).
-          subst (λ (l : List (Option E)). StartsWith l mine.told.log) (sym t.1) (shorter mine.told.log other.told.log all (mine_begins mine other all m) (other_begins mine other all m) (omega (arith, t.0, m.mine_told.number, m.other_told.number))))
+      subst (λ (l : List (Option E)). StartsWith l mine.told.log) (sym t.1) (shorter mine.told.log other.told.log all (mine_begins mine other all m) (other_begins mine other all m) (omega (arith, t.0, m.mine_told.number, m.other_told.number))))
       (λ (t : (other.number ≤ mine.number) × (log ≡ mine.told.log) × (number ≡ mine.number)). subst (λ (l : List (Option E)). StartsWith l mine.told.log) (sym t.1) (starts_same mine.told.log)) longer
 
   pub longer_other : (mine other : Knowledge E) (all log : List (Option E)) (number : ℕ) → Meet mine other all → Longer mine other log number → StartsWith log other.told.log
   longer_other mine other all log number m longer = ⊎_elim
       (λ (t : (mine.number < other.number) × (log ≡ other.told.log) × (number ≡ other.number)). subst (λ (l : List (Option E)). StartsWith l other.told.log) (sym t.1) (starts_same other.told.log))
       (λ (t : (other.number ≤ mine.number) × (log ≡ mine.told.log) × (number ≡ mine.number)).
-          subst (λ (l : List (Option E)). StartsWith l other.told.log) (sym t.1) (shorter other.told.log mine.told.log all (other_begins mine other all m) (mine_begins mine other all m) (omega (arith, t.0, m.mine_told.number, m.other_told.number)))) longer
+      subst (λ (l : List (Option E)). StartsWith l other.told.log) (sym t.1) (shorter other.told.log mine.told.log all (other_begins mine other all m) (mine_begins mine other all m) (omega (arith, t.0, m.mine_told.number, m.other_told.number)))) longer
 
   pub one_of : (mine other : Knowledge E) (log : List (Option E)) (number : ℕ) → Longer mine other log number → (log ≡ mine.told.log) ⊎ (log ≡ other.told.log)
   one_of mine other log number longer = ⊎_elim (λ (t : (mine.number < other.number) × (log ≡ other.told.log) × (number ≡ other.number)). inr t.1)
@@ -57,13 +57,13 @@ module _ {E : Type 0} where
   longer_mine_last mine other all log number m longer closed =
       let within = prefix_length other.told.log mine.told.log (within_closed mine.told.log all other.told.log (mine_closed mine other all m closed) m.other_told.unclosed (other_begins mine other all m)) in
       ⊎_elim (λ (t : (mine.number < other.number) × (log ≡ other.told.log) × (number ≡ other.number)). absurd (omega (arith, t.0, within, m.mine_told.number, m.other_told.number)))
-          (λ (t : (other.number ≤ mine.number) × (log ≡ mine.told.log) × (number ≡ mine.number)). t.1) longer
+      (λ (t : (other.number ≤ mine.number) × (log ≡ mine.told.log) × (number ≡ mine.number)). t.1) longer
 
   pub longer_other_last : (mine other : Knowledge E) (all log : List (Option E)) (number : ℕ) → Meet mine other all → Longer mine other log number → other.closed ≡ true → log ≡ other.told.log
   longer_other_last mine other all log number m longer closed =
       let within = within_closed other.told.log all mine.told.log (other_closed mine other all m closed) m.mine_told.unclosed (mine_begins mine other all m) in
       ⊎_elim (λ (t : (mine.number < other.number) × (log ≡ other.told.log) × (number ≡ other.number)). t.1)
-          (λ (t : (other.number ≤ mine.number) × (log ≡ mine.told.log) × (number ≡ mine.number)). t.1 ∙ prefix_whole mine.told.log other.told.log within (omega (arith, t.0, m.mine_told.number, m.other_told.number))) longer
+      (λ (t : (other.number ≤ mine.number) × (log ≡ mine.told.log) × (number ≡ mine.number)). t.1 ∙ prefix_whole mine.told.log other.told.log within (omega (arith, t.0, m.mine_told.number, m.other_told.number))) longer
 
   pub longer_last : (mine other : Knowledge E) (all log : List (Option E)) (number : ℕ) → Meet mine other all → Longer mine other log number → (mine.closed || other.closed) ≡ true → all ≡ log ++ None ∷ []
   longer_last mine other all log number m longer closed = ⊎_elim

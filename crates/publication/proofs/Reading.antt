@@ -9,10 +9,11 @@ use mathlib.Core.List.{IsPrefix}
 use Rattle.logbook.specs.declared.tokens.Seen.{Seen}
 use Rattle.publication.specs.View.{EndsWith, IsView, StartsWith}
 use Rattle.publication.specs.Chronicle.{editions_of, IsOpen}
-use Rattle.publication.specs.Readers.{IsTold, IsReader, SeesMore, SeesNothing, Notes, view_by}
+use Rattle.publication.specs.Readers.{IsTold, IsReader, IsNoted, SeesMore, SeesNothing, Notes, view_by}
 use Rattle.publication.specs.declared.knowledge.Knowledge.{Knowledge}
 use Rattle.publication.specs.declared.rule.Sight.{Sight}
 use Rattle.publication.specs.declared.chronicle.Chronicle.{Chronicle}
+use Rattle.publication.proofs.Steps.{starts_then}
 use Rattle.publication.proofs.Logs.{prefix_whole, closed_all, prefix_then, prefix_length, shorter, within_closed}
 
 abbrev Token : Type 0 → Type 0
@@ -53,17 +54,17 @@ module _ {E : Type 0} where
   begun [] origin all one p q = inl refl
   begun (entry ∷ seen) origin all one p q = inr (editions_start (entry ∷ seen) origin (shorter origin (entry ∷ seen) all q p (omega (arith, one))))
 
-  pub view_holds : (sight : Sight E) (known : Knowledge E) → IsReader sight known → IsView (view_by sight known)
-  view_holds sight known r =
+  pub view_holds : (sight : Sight E) (seen : Token E) (count : ℕ) (known : Knowledge E) → IsReader sight seen count known → IsView (view_by sight seen known)
+  view_holds sight seen count known r =
       let origin : IsPrefix known.origin.log known.all.log = prefix_then known.origin.log known.told.log known.all.log (r.told.informed.0, sym r.told.informed.1) r.told.begins in record {
         history = editions_of known.all.log;
-        seen_begins = editions_begin sight.seen.log known.all.log r.begins;
+        seen_begins = editions_begin seen.log known.all.log r.begins;
         told_begins = editions_begin known.told.log known.all.log r.told.begins;
         informed = editions_start known.told.log known.origin.log r.told.informed;
-        begins = begun sight.seen.log known.origin.log known.all.log r.told.one r.begins origin;
+        begins = begun seen.log known.origin.log known.all.log r.told.one r.begins origin;
         rising = r.rising;
-        known = λ i d lt. let k = r.entered i d lt in (k.0, omega (arith, k.1, editions_length sight.seen.log r.unclosed));
-        within = λ closed. editions_begin sight.seen.log known.told.log (within_closed known.told.log known.all.log sight.seen.log (r.told.last closed) r.unclosed r.begins);
+        known = λ i d lt. let k = r.entered i d lt in (k.0, omega (arith, k.1, editions_length seen.log r.unclosed));
+        within = λ closed. editions_begin seen.log known.told.log (within_closed known.told.log known.all.log seen.log (r.told.last closed) r.unclosed r.begins);
       }
 
   -- what is known after a step
@@ -80,45 +81,92 @@ module _ {E : Type 0} where
     last = λ closed. closed_all known.told.log all.log t.unclosed s.settled (subst (λ (l : List (Option E)). IsPrefix l all.log) (t.last closed) s.kept);
   }
 
-  later_length : (before after : Sight E) (known all : Token E) → SeesMore before after known all → length before.seen.log ≤ length after.seen.log
-  later_length before after known all s = prefix_length before.seen.log after.seen.log (s.later.0, sym s.later.1)
-
-  pub looked : (before after : Sight E) (known : Knowledge E) (all : Token E) → IsReader before known → SeesMore before after known.all all → after.entries ≡ before.entries → IsReader after (record known { all = all })
-  looked before after known all r s same = record {
-    told = told_more before after known all r.told s;
-    opened = s.opened;
-    book = s.book ∙ r.book;
-    unclosed = s.unclosed;
-    begins = s.begins;
-    rising = subst IsNonDecreasing (sym same) r.rising;
-    entered = subst (All (λ number. (1 ≤ number) × (number ≤ length after.seen.log))) (sym same) (all_more before.entries (length before.seen.log) (length after.seen.log) (later_length before after known.all all s) r.entered);
+  pub sees_then : (before mid after : Sight E) (known some all : Token E) → SeesMore before mid known some → SeesMore mid after some all → SeesMore before after known all
+  sees_then before mid after known some all s t = record {
+    later = starts_then before.seen.log mid.seen.log after.seen.log s.later t.later;
+    opened = t.opened;
+    book = t.book ∙ s.book;
+    unclosed = t.unclosed;
+    some = t.some;
+    all_book = t.all_book ∙ s.all_book;
+    kept = prefix_then known.log some.log all.log s.kept t.kept;
+    begins = t.begins;
+    settled = t.settled;
   }
 
-  pub entered : (before after : Sight E) (known : Knowledge E) (all : Token E) → IsReader before known → SeesMore before after known.all all → Notes before after → IsReader after (record known { all = all })
-  entered before after known all r s notes =
-      let P : ℕ → Type 0 = λ number. (1 ≤ number) × (number ≤ length after.seen.log) in
-      let le = later_length before after known.all all s in record {
+  -- a reader sees no less than it had seen
+  pub seen_later : (before after : Sight E) (seen : Token E) (count : ℕ) (known : Knowledge E) (all : Token E) → IsReader before seen count known → SeesMore before after known.all all → StartsWith after.seen.log seen.log
+  seen_later before after seen count known all r s = starts_then seen.log before.seen.log after.seen.log r.within s.later
+
+  longer : (before after : Sight E) (seen : Token E) (count : ℕ) (known : Knowledge E) (all : Token E) → IsReader before seen count known → SeesMore before after known.all all → length seen.log ≤ length after.seen.log
+  longer before after seen count known all r s = let l = seen_later before after seen count known all r s in prefix_length seen.log after.seen.log (l.0, sym l.1)
+
+  pub late_enough : (before : Sight E) (seen : Token E) (count : ℕ) (known : Knowledge E) → IsReader before seen count known → known.number ≤ count → known.number ≤ length before.seen.log
+  late_enough before seen count known r le = omega (arith, le, r.counted, prefix_length seen.log before.seen.log (r.within.0, sym r.within.1))
+
+  module _ (before after : Sight E) (seen : Token E) (count : ℕ) (known : Knowledge E) (all noted : Token E) (number : ℕ) (r : IsReader before seen count known) (s : SeesMore before after known.all all) (n : IsNoted after noted number) where
+    stands : IsNonDecreasing after.entries → All (λ entry. (1 ≤ entry) × (entry ≤ length after.seen.log)) after.entries → IsReader after noted number (record known { all = all })
+    stands rising below = record {
+      told = told_more before after known all r.told s;
+      opened = s.opened;
+      book = s.book ∙ r.book;
+      counted = n.counted ∙ ap length (sym n.is);
+      unclosed = subst (λ (l : List (Option E)). IsOpen l) (sym n.is) s.unclosed;
+      begins = subst (λ (l : List (Option E)). IsPrefix l all.log) (sym n.is) s.begins;
+      within = ([], sym n.is ∙ sym (append-nil noted.log));
+      rising = rising;
+      entered = subst (λ (l : List (Option E)). All (λ entry. (1 ≤ entry) × (entry ≤ length l)) after.entries) (sym n.is) below;
+    }
+
+    pub looked : after.entries ≡ before.entries → IsReader after noted number (record known { all = all })
+    looked same = stands (subst IsNonDecreasing (sym same) r.rising)
+        (subst (All (λ entry. (1 ≤ entry) × (entry ≤ length after.seen.log))) (sym same) (all_more before.entries (length seen.log) (length after.seen.log) (longer before after seen count known all r s) r.entered))
+
+    pub entered : Notes before after → IsReader after noted number (record known { all = all })
+    entered notes =
+        let P : ℕ → Type 0 = λ entry. (1 ≤ entry) × (entry ≤ length after.seen.log) in
+        let le = longer before after seen count known all r s in
+        stands (subst IsNonDecreasing (sym notes) (rises before.entries (length seen.log) (length after.seen.log) le r.rising r.entered))
+        (subst (All P) (sym notes) (All-append P before.entries (length after.seen.log ∷ []) (all_more before.entries (length seen.log) (length after.seen.log) le r.entered) (All-cons P (length after.seen.log) [] (s.some, le_refl (length after.seen.log)) (All-nil P))))
+
+    -- what was told is seen, and nothing else where it is closed
+    pub informed : known.number ≤ length after.seen.log → StartsWith (editions_of noted.log) (editions_of known.told.log)
+    informed late = editions_start noted.log known.told.log (subst (λ (l : List (Option E)). StartsWith l known.told.log) (sym n.is)
+        (shorter known.told.log after.seen.log all.log (prefix_then known.told.log known.all.log all.log r.told.begins s.kept) s.begins (omega (arith, late, r.told.number))))
+
+    pub last : known.number ≤ length after.seen.log → known.closed ≡ true → editions_of noted.log ≡ editions_of known.told.log
+    last late closed =
+        let t = told_more before after known all r.told s in
+        ap editions_of (n.is ∙ prefix_whole after.seen.log known.told.log (within_closed known.told.log all.log after.seen.log (t.last closed) s.unclosed s.begins) (omega (arith, late, r.told.number)))
+
+    pub later : StartsWith (editions_of noted.log) (editions_of seen.log)
+    later = editions_start noted.log seen.log (subst (λ (l : List (Option E)). StartsWith l seen.log) (sym n.is) (seen_later before after seen count known all r s))
+
+    pub gains : Notes before after → after.entries ≡ before.entries ++ length (editions_of noted.log) ∷ []
+    gains notes = notes ∙ ap (λ k. before.entries ++ k ∷ []) (sym (ap (λ l. length (editions_of l)) n.is ∙ editions_length after.seen.log s.unclosed))
+
+    pub number_is : length after.seen.log ≡ length (editions_of noted.log)
+    number_is = sym (ap (λ l. length (editions_of l)) n.is ∙ editions_length after.seen.log s.unclosed)
+
+    pub newest : (edition : E) → EndsWith after.seen.log (Some edition) → EndsWith (editions_of noted.log) edition
+    newest edition ends = editions_end noted.log edition (subst (λ (l : List (Option E)). EndsWith l (Some edition)) (sym n.is) ends)
+
+  -- the reader keeps what it has seen, whatever the sight saw
+  pub stayed : (before after : Sight E) (seen : Token E) (count : ℕ) (known : Knowledge E) (all : Token E) → IsReader before seen count known → after.entries ≡ before.entries
+      → SeesNothing before after known.all all ⊎ SeesMore before after known.all all → IsReader after seen count (record known { all = all })
+  stayed before after seen count known all r same step = ⊎_elim
+      (λ (t : SeesNothing before after known.all all). subst (λ (sight : Sight E). IsReader sight seen count (record known { all = all })) (sym t.0) (subst (λ (token : Token E). IsReader before seen count (record known { all = token })) (sym t.1) r))
+      (λ (s : SeesMore before after known.all all). record {
         told = told_more before after known all r.told s;
         opened = s.opened;
         book = s.book ∙ r.book;
-        unclosed = s.unclosed;
-        begins = s.begins;
-        rising = subst IsNonDecreasing (sym notes) (rises before.entries (length before.seen.log) (length after.seen.log) le r.rising r.entered);
-        entered = subst (All P) (sym notes) (All-append P before.entries (length after.seen.log ∷ []) (all_more before.entries (length before.seen.log) (length after.seen.log) le r.entered) (All-cons P (length after.seen.log) [] (s.some, le_refl (length after.seen.log)) (All-nil P)));
-      }
-
-  -- nothing was seen
-  pub stayed : (before after : Sight E) (known : Knowledge E) (all : Token E) → IsReader before known → SeesNothing before after known.all all → IsReader after (record known { all = all })
-  stayed before after known all r s = subst (λ (sight : Sight E). IsReader sight (record known { all = all })) (sym s.0) (subst (λ (token : Token E). IsReader before (record known { all = token })) (sym s.1) r)
-
-  -- what was told is seen, and nothing else where it is closed
-  pub informed : (before after : Sight E) (known : Knowledge E) (all : Token E) → IsReader before known → SeesMore before after known.all all → known.number ≤ length after.seen.log → StartsWith after.seen.log known.told.log
-  informed before after known all r s late = shorter known.told.log after.seen.log all.log (prefix_then known.told.log known.all.log all.log r.told.begins s.kept) s.begins (omega (arith, late, r.told.number))
-
-  pub last : (before after : Sight E) (known : Knowledge E) (all : Token E) → IsReader before known → SeesMore before after known.all all → known.number ≤ length after.seen.log → known.closed ≡ true → after.seen.log ≡ known.told.log
-  last before after known all r s late closed =
-      let t = told_more before after known all r.told s in
-      prefix_whole after.seen.log known.told.log (within_closed known.told.log all.log after.seen.log (t.last closed) s.unclosed s.begins) (omega (arith, late, r.told.number))
+        counted = r.counted;
+        unclosed = r.unclosed;
+        begins = prefix_then seen.log known.all.log all.log r.begins s.kept;
+        within = seen_later before after seen count known all r s;
+        rising = subst IsNonDecreasing (sym same) r.rising;
+        entered = subst (All (λ number. (1 ≤ number) × (number ≤ length seen.log))) (sym same) r.entered;
+      }) step
 
 -- how a step went, by what it answered
 pub either_way : {T X : Type 0} (r : Result T X) (N S : Type 0) → OnOk r S → OnErr r (N ⊎ S) → N ⊎ S

@@ -67,7 +67,7 @@ module _ {E : Type 0} where
       → TurnsAt Holds seat sight old new (λ before old new after. after ≡ before)
   publishes seat sight old new change same sound book later sights h at =
       let others : (j : ℕ) (u : Sight E) → get_elem? sights j ≡ some u → Knows new u = λ j u e. knows_more old new u (ap (λ z. z.log.book) same ∙ book)
-          (subst (λ z. StartsWith z.log.log old.log.log) (sym same) later) (h.1 j u e) in (
+      (subst (λ z. StartsWith z.log.log old.log.log) (sym same) later) (h.1 j u e) in (
         sight,
         turned seat new sights sight (sound_same new change same sound) (others seat sight at) others,
         refl,

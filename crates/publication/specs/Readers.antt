@@ -15,10 +15,10 @@ module _ {E : Type 0} where
   abbrev pub history_by : Knowledge E → History E
   history_by known = record { opening = opening_by known.origin; editions = editions_of known.told.log; closed = known.closed }
 
-  abbrev pub view_by : Sight E → Knowledge E → View E
-  view_by sight known = record {
+  abbrev pub view_by : {P : Type 0} → Sight E → Seen (Option E) ℕ P → Knowledge E → View E
+  view_by sight seen known = record {
     opening = opening_by known.origin;
-    seen = editions_of sight.seen.log;
+    seen = editions_of seen.log;
     told = editions_of known.told.log;
     closed = known.closed;
     entries = sight.entries;
@@ -36,15 +36,17 @@ module _ {E : Type 0} where
     pub begins : IsPrefix known.told.log known.all.log
     pub last : known.closed ≡ true → known.all.log ≡ known.told.log ++ None ∷ []
 
-  -- what was seen begins all that is known, too
-  pub record IsReader (sight : Sight E) (known : Knowledge E) : Type 0 where
+  -- what was seen begins all that is known, too, and what the sight has seen
+  pub record IsReader {P : Type 0} (sight : Sight E) (seen : Seen (Option E) ℕ P) (count : ℕ) (known : Knowledge E) : Type 0 where
     pub told : IsTold known
     pub opened : sight.opened ≡ true
     pub book : sight.seen.book ≡ known.origin.book
-    pub unclosed : IsOpen sight.seen.log
-    pub begins : IsPrefix sight.seen.log known.all.log
+    pub counted : count ≡ length seen.log
+    pub unclosed : IsOpen seen.log
+    pub begins : IsPrefix seen.log known.all.log
+    pub within : StartsWith sight.seen.log seen.log
     pub rising : IsNonDecreasing sight.entries
-    pub entered : All (λ number. (1 ≤ number) × (number ≤ length sight.seen.log)) sight.entries
+    pub entered : All (λ number. (1 ≤ number) × (number ≤ length seen.log)) sight.entries
 
   -- a step by which a reader sees more, and so knows more
   pub record SeesMore {P : Type 0} (before after : Sight E) (known all : Seen (Option E) ℕ P) : Type 0 where
@@ -65,3 +67,8 @@ module _ {E : Type 0} where
   -- nothing was seen
   abbrev pub SeesNothing : {P : Type 0} → Sight E → Sight E → Seen (Option E) ℕ P → Seen (Option E) ℕ P → Type 0
   SeesNothing before after known all = (after ≡ before) × (all ≡ known)
+
+  -- what was seen in a step, as the reader keeps it
+  pub record IsNoted {P : Type 0} (after : Sight E) (seen : Seen (Option E) ℕ P) (count : ℕ) : Type 0 where
+    pub is : seen.log ≡ after.seen.log
+    pub counted : count ≡ length after.seen.log

@@ -4,8 +4,8 @@ ghost use Rattle.std.specs.Prelude.{◌≡◌, ℕ, ◌++◌, ◌∷◌, [], len
 ghost use Rattle.std.specs.Arc.{arc_value};
 ghost use Rattle.publication.specs.Chronicle.{IsOpen, counter_of, place_after};
 
-use plain_data::{Mem, NoMemory};
 use logbook::{Gain, Offer, Pen, Plain, Play, Rule, Seen, Start, Word};
+use plain_data::{Mem, NoMemory};
 use std::sync::Arc;
 
 /// The rule of the log. An entry is an edition, or the closing entry.
@@ -94,8 +94,11 @@ pub(crate) fn make_place<E>(counter: &Counter<E>, known: &Token<E>, entries: u64
     }
     let places = entries + 1;
     let mut known = known.again();
-    let mut offer: Offer<Option<E>, u64, Chronicle, Nothing> = known
-        .plain::<Nothing, (), OfClosing>(&());
+    let mut offer: Offer<Option<E>, u64, Chronicle, Nothing> = known.plain::<
+        Nothing,
+        (),
+        OfClosing,
+    >(&());
     let mut pen = known.no_pen();
     let found = counter.compare_exchange::<MakePlace, Nothing>(
         places,
@@ -111,19 +114,22 @@ pub(crate) fn make_place<E>(counter: &Counter<E>, known: &Token<E>, entries: u64
     Ok(pen)
 }
 
-// A new log with its first entry, the word that counts its places, and the pen of the next entry.
-pub(crate) fn open_log<E>(first: &Arc<E>) -> Mem<(Counter<E>, Token<E>, Pen)>
-    ensures counter { IfOk result (λ t. t.0 ≡ counter_of t.1.book) }
-    ensures log { IfOk result (λ t. t.1.log ≡ Some (arc_value first.now) ∷ []) }
-    ensures book { IfOk result (λ t. t.2.book ≡ t.1.book) }
-    ensures place { IfOk result (λ t. t.2.nib ≡ place_after 1) }
+// A new log with its first entry: the word that counts its places, the log before and after that entry, and the
+// pen of the next one.
+pub(crate) fn open_log<E>(first: &Arc<E>) -> Mem<(Counter<E>, Token<E>, Token<E>, Pen)>
+    ensures nothing { IfOk result (λ t. t.1.log ≡ []) }
+    ensures log { IfOk result (λ t. t.2.log ≡ Some (arc_value first.now) ∷ []) }
+    ensures counter { IfOk result (λ t. t.0 ≡ counter_of t.2.book) }
+    ensures book { IfOk result (λ t. t.3.book ≡ t.2.book) }
+    ensures place { IfOk result (λ t. t.3.nib ≡ place_after 1) }
 {
     let (mut log, mut first_pen, _second_pen) = Seen::open(Start::alone(), 1, 0);
+    let nothing = log.again();
     let counter = Word::tracked(1, &mut first_pen);
     let mut pen = make_place(&counter, &log, 0)?;
     let next = make_place(&counter, &log, 1)?;
     add_entry::<E, Arc<E>, OfEdition>(&counter, &mut log, &mut pen, first);
-    Ok((counter, log, next))
+    Ok((counter, nothing, log, next))
 }
 
 // Adds an entry to an open log, at the place that the pen is for.

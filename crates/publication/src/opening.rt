@@ -81,8 +81,10 @@ fn known_at_opening<E>(origin: &Token<E>) -> Knowledge<E>
 // One reader more.
 fn add_reader<E: Drop>(
     writer: &mut SlotWriter<E>,
+    nothing: &Token<E>,
     origin: &Token<E>,
 ) -> Mem<EditionReader<E>>
+    requires nothing { nothing.now.log ≡ [] }
     requires one { length origin.now.log ≡ 1 }
     requires unclosed { IsOpen origin.now.log }
     requires opened { (sight writer.old.desk.place).opened ≡ true }
@@ -95,16 +97,22 @@ fn add_reader<E: Drop>(
     let mut reader = writer.factory().reader()?;
     let note = writer.tell::<Telling>();
     reader.learn::<Learning>(note);
-    Ok(EditionReader::new(reader, known_at_opening(origin)))
+    Ok(EditionReader::new(
+        reader,
+        nothing.again(),
+        known_at_opening(origin),
+    ))
 }
 
 // So many readers more.
 fn add_readers<E: Drop>(
     alloc: Global,
     writer: &mut SlotWriter<E>,
+    nothing: &Token<E>,
     origin: &Token<E>,
     readers: u32,
 ) -> Mem<Vec<EditionReader<E>>>
+    requires nothing { nothing.now.log ≡ [] }
     requires one { length origin.now.log ≡ 1 }
     requires unclosed { IsOpen origin.now.log }
     requires opened { (sight writer.old.desk.place).opened ≡ true }
@@ -116,7 +124,7 @@ fn add_readers<E: Drop>(
 {
     let mut all = Vec::new(alloc);
     for _ in 0..readers {
-        all.push(add_reader(writer, origin)?)?;
+        all.push(add_reader(writer, nothing, origin)?)?;
     }
     Ok(all)
 }
@@ -144,14 +152,14 @@ pub fn open_editions<E: Drop, R: Wait>(
     ensures readers { IfOk result (λ opened. vec_len opened.1 ≡ readers) }
     ensures newcomers { IfOk result (λ opened. All (λ reader. reader ≡ newcomer opened.0.opening) opened.1.items) }
 {
-    let (counter, log, pen) = open_log(&first)?;
+    let (counter, nothing, log, pen) = open_log(&first)?;
     let slot = Slot {
         edition: first,
         number: 1,
         log: log.again(),
     };
     let mut writer = open_writer(rt, alloc, slot, readers as usize)?;
-    match add_readers(alloc, &mut writer, &log, readers) {
+    match add_readers(alloc, &mut writer, &nothing, &log, readers) {
         Ok(all) => Ok((Publisher::new(writer, counter, log, pen), all)),
         Err(refusal) => {
             let _ = writer.take(rt);

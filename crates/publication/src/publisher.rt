@@ -57,11 +57,7 @@ where
 }
 
 // Hands a change to the writer. Where the writer has no room, it tries again.
-fn append_change<E: Drop, R: Wait>(
-    rt: &R,
-    writer: SlotWriter<E>,
-    change: Slot<E>,
-) -> SlotWriter<E>
+fn append_change<E: Drop, R: Wait>(rt: &R, writer: SlotWriter<E>, change: Slot<E>) -> SlotWriter<E>
     ensures desk { result.desk ≡ writer.desk }
     ensures pending { drop result.behind result.log.items ≡ drop writer.behind writer.log.items ++ change ∷ [] }
 {
@@ -78,11 +74,7 @@ fn append_change<E: Drop, R: Wait>(
 
 // Publishes a change, which is the only one that waits then. Where the count of an edition's owners is at
 // its end, it tries again.
-fn publish_change<E: Drop, R: Wait>(
-    rt: &R,
-    writer: SlotWriter<E>,
-    change: Slot<E>,
-) -> SlotWriter<E>
+fn publish_change<E: Drop, R: Wait>(rt: &R, writer: SlotWriter<E>, change: Slot<E>) -> SlotWriter<E>
     requires clean { drop writer.behind writer.log.items ≡ [] }
     requires sound { IsSound change }
     requires book { change.log.book ≡ writer.desk.shown.value.log.book }

@@ -4,7 +4,7 @@ ghost use Rattle.std.specs.Prelude.{◌≡◌, ℕ, ◌≤◌, ◌⊎◌, Some, 
 ghost use Rattle.std.specs.Arc.{arc_value};
 ghost use Rattle.left_right.specs.Sides.{view as sight};
 ghost use Rattle.publication.specs.View.{EndsWith, GainsEntry, IsView, ShareHistory, StartsWith};
-ghost use Rattle.publication.specs.Readers.{IsReader, IsTold, Notes, SeesMore, SeesNothing, history_by, view_by};
+ghost use Rattle.publication.specs.Readers.{IsNoted, IsReader, IsTold, Notes, SeesMore, SeesNothing, history_by, view_by};
 
 use crate::chronicle::Token;
 use crate::knowledge::{Knowledge, joined};
@@ -59,6 +59,8 @@ impl<E> Told<E> {
 #[derive(Drop)]
 pub struct EditionReader<E: Drop> {
     reader: SlotReader<E>,
+    seen: Token<E>,
+    count: u64,
     knowledge: Knowledge<E>,
 }
 
@@ -71,28 +73,39 @@ impl<E: Drop> Model for EditionReader<E> {
 
     ghost coded = { view_code E.code };
 
-    ghost view = { λ reader. view_by (sight reader.reader.place) reader.knowledge };
+    ghost view = { λ reader. view_by (sight reader.reader.place) reader.seen reader.knowledge };
 
-    ghost invariant = { λ reader. IsReader (sight reader.reader.place) reader.knowledge };
+    ghost invariant = { λ reader. IsReader (sight reader.reader.place) reader.seen reader.count reader.knowledge };
 }
 
-// Whether a slot is as new as what was told.
-fn as_new<E>(slot: &Slot<E>, least: u64) -> Mem<()>
-    ensures { IfOk result (λ _. least ≤ slot.now.number) }
+/// The history that was seen at a step, and the number of its editions.
+#[derive(Drop)]
+struct Sighting<E> {
+    seen: Token<E>,
+    count: u64,
+}
+
+/// An entry that was noted, and what it gives where a further owner of the edition can be had.
+#[derive(Drop)]
+struct Noted<E> {
+    sighting: Sighting<E>,
+    entered: Mem<Entered<E>>,
+}
+
+fn sighting_of<E>(slot: &Slot<E>) -> Sighting<E>
+    ensures seen { result.seen ≡ slot.now.log }
+    ensures count { result.count ≡ slot.now.number }
 {
-    if slot.number < least {
-        return Err(NoMemory);
+    Sighting {
+        seen: slot.log.again(),
+        count: slot.number,
     }
-    Ok(())
 }
 
-// The edition of a slot, unless it is older than what was told.
-fn edition_of<E>(slot: &Slot<E>, least: u64) -> Mem<Entered<E>>
+fn edition_of<E>(slot: &Slot<E>) -> Mem<Entered<E>>
     ensures number { IfOk result (λ entered. entered.number ≡ slot.now.number) }
     ensures edition { IfOk result (λ entered. arc_value entered.edition ≡ arc_value slot.now.edition) }
-    ensures late { IfOk result (λ _. least ≤ slot.now.number) }
 {
-    as_new(slot, least)?;
     Ok(Entered {
         number: slot.number,
         edition: Arc::try_clone(&slot.edition)?,
@@ -103,13 +116,13 @@ fn edition_of<E>(slot: &Slot<E>, least: u64) -> Mem<Entered<E>>
 fn enter_once<E: Drop>(
     reader: SlotReader<E>,
     known: Token<E>,
-    least: u64,
-) -> (SlotReader<E>, (Token<E>, Mem<Entered<E>>))
+) -> (SlotReader<E>, (Token<E>, Mem<Noted<E>>))
     requires opened { (sight reader.place).opened ≡ true }
     requires book { known.book ≡ (sight reader.place).seen.book }
     ensures ok { OnOk result.1.1 (SeesMore (sight reader.place) (sight result.0.place) known result.1.0 × Notes (sight reader.place) (sight result.0.place)) }
-    ensures edition { IfOk result.1.1 (λ entered. (entered.number ≡ length (sight result.0.place).seen.log) × EndsWith (sight result.0.place).seen.log (Some (arc_value entered.edition)) × (least ≤ length (sight result.0.place).seen.log)) }
-    ensures err { OnErr result.1.1 (SeesNothing (sight reader.place) (sight result.0.place) known result.1.0 ⊎ (SeesMore (sight reader.place) (sight result.0.place) known result.1.0 × Notes (sight reader.place) (sight result.0.place))) }
+    ensures noted { IfOk result.1.1 (λ noted. IsNoted (sight result.0.place) noted.sighting.seen noted.sighting.count) }
+    ensures entered { IfOk result.1.1 (λ noted. IfOk noted.entered (λ entered. (entered.number ≡ length (sight result.0.place).seen.log) × EndsWith (sight result.0.place).seen.log (Some (arc_value entered.edition)))) }
+    ensures err { OnErr result.1.1 (SeesNothing (sight reader.place) (sight result.0.place) known result.1.0) }
 {
     match reader.enter_as::<Enters>() {
         Err(reader) => (reader, (known, Err(NoMemory))),
@@ -117,8 +130,11 @@ fn enter_once<E: Drop>(
             let slot = reading.get();
             let mut known = known;
             known.learn(&slot.log);
-            let entered = edition_of(slot, least);
-            (reading.leave(), (known, entered))
+            let noted = Noted {
+                sighting: sighting_of(slot),
+                entered: edition_of(slot),
+            };
+            (reading.leave(), (known, Ok(noted)))
         }
     }
 }
@@ -127,15 +143,15 @@ fn enter_once<E: Drop>(
 fn enter_at<E: Drop>(
     reader: &mut SlotReader<E>,
     known: Token<E>,
-    least: u64,
-) -> (Token<E>, Mem<Entered<E>>)
+) -> (Token<E>, Mem<Noted<E>>)
     requires opened { (sight reader.old.place).opened ≡ true }
     requires book { known.book ≡ (sight reader.old.place).seen.book }
     ensures ok { OnOk result.1 (SeesMore (sight reader.old.place) (sight reader.new.place) known result.0 × Notes (sight reader.old.place) (sight reader.new.place)) }
-    ensures edition { IfOk result.1 (λ entered. (entered.number ≡ length (sight reader.new.place).seen.log) × EndsWith (sight reader.new.place).seen.log (Some (arc_value entered.edition)) × (least ≤ length (sight reader.new.place).seen.log)) }
-    ensures err { OnErr result.1 (SeesNothing (sight reader.old.place) (sight reader.new.place) known result.0 ⊎ (SeesMore (sight reader.old.place) (sight reader.new.place) known result.0 × Notes (sight reader.old.place) (sight reader.new.place))) }
+    ensures noted { IfOk result.1 (λ noted. IsNoted (sight reader.new.place) noted.sighting.seen noted.sighting.count) }
+    ensures entered { IfOk result.1 (λ noted. IfOk noted.entered (λ entered. (entered.number ≡ length (sight reader.new.place).seen.log) × EndsWith (sight reader.new.place).seen.log (Some (arc_value entered.edition)))) }
+    ensures err { OnErr result.1 (SeesNothing (sight reader.old.place) (sight reader.new.place) known result.0) }
 {
-    replace_with(reader, known, |reader, known| enter_once(reader, known, least))
+    replace_with(reader, known, |reader, known| enter_once(reader, known))
 }
 
 // Looks once. It gives back the reader, and what is known then.
@@ -143,11 +159,12 @@ fn look_once<E: Drop>(
     reader: SlotReader<E>,
     known: Token<E>,
     least: u64,
-) -> (SlotReader<E>, (Token<E>, Mem<()>))
+) -> (SlotReader<E>, (Token<E>, Mem<Sighting<E>>))
     requires opened { (sight reader.place).opened ≡ true }
     requires book { known.book ≡ (sight reader.place).seen.book }
     ensures entries { (sight result.0.place).entries ≡ (sight reader.place).entries }
     ensures ok { OnOk result.1.1 (SeesMore (sight reader.place) (sight result.0.place) known result.1.0 × (least ≤ length (sight result.0.place).seen.log)) }
+    ensures seen { IfOk result.1.1 (λ sighting. IsNoted (sight result.0.place) sighting.seen sighting.count) }
     ensures err { OnErr result.1.1 (SeesNothing (sight reader.place) (sight result.0.place) known result.1.0 ⊎ SeesMore (sight reader.place) (sight result.0.place) known result.1.0) }
 {
     match reader.enter_as::<Looks>() {
@@ -156,8 +173,12 @@ fn look_once<E: Drop>(
             let slot = reading.get();
             let mut known = known;
             known.learn(&slot.log);
-            let seen = as_new(slot, least);
-            (reading.leave(), (known, seen))
+            let sighting = if slot.number < least {
+                Err(NoMemory)
+            } else {
+                Ok(sighting_of(slot))
+            };
+            (reading.leave(), (known, sighting))
         }
     }
 }
@@ -167,23 +188,59 @@ fn look_at<E: Drop>(
     reader: &mut SlotReader<E>,
     known: Token<E>,
     least: u64,
-) -> (Token<E>, Mem<()>)
+) -> (Token<E>, Mem<Sighting<E>>)
     requires opened { (sight reader.old.place).opened ≡ true }
     requires book { known.book ≡ (sight reader.old.place).seen.book }
     ensures entries { (sight reader.new.place).entries ≡ (sight reader.old.place).entries }
     ensures ok { OnOk result.1 (SeesMore (sight reader.old.place) (sight reader.new.place) known result.0 × (least ≤ length (sight reader.new.place).seen.log)) }
+    ensures seen { IfOk result.1 (λ sighting. IsNoted (sight reader.new.place) sighting.seen sighting.count) }
     ensures err { OnErr result.1 (SeesNothing (sight reader.old.place) (sight reader.new.place) known result.0 ⊎ SeesMore (sight reader.old.place) (sight reader.new.place) known result.0) }
 {
     replace_with(reader, known, |reader, known| look_once(reader, known, least))
 }
 
+// Enters once, after a look where more was told than this reader has seen: so what is noted is no older.
+fn enter_informed<E: Drop>(
+    reader: &mut SlotReader<E>,
+    known: Token<E>,
+    least: u64,
+    is_behind: bool,
+) -> (Token<E>, Mem<Noted<E>>)
+    requires opened { (sight reader.old.place).opened ≡ true }
+    requires book { known.book ≡ (sight reader.old.place).seen.book }
+    requires late { is_behind ≡ false → least ≤ length (sight reader.old.place).seen.log }
+    ensures ok { OnOk result.1 (SeesMore (sight reader.old.place) (sight reader.new.place) known result.0 × Notes (sight reader.old.place) (sight reader.new.place)) }
+    ensures late { OnOk result.1 (least ≤ length (sight reader.new.place).seen.log) }
+    ensures noted { IfOk result.1 (λ noted. IsNoted (sight reader.new.place) noted.sighting.seen noted.sighting.count) }
+    ensures entered { IfOk result.1 (λ noted. IfOk noted.entered (λ entered. (entered.number ≡ length (sight reader.new.place).seen.log) × EndsWith (sight reader.new.place).seen.log (Some (arc_value entered.edition)))) }
+    ensures err { OnErr result.1 (((sight reader.new.place).entries ≡ (sight reader.old.place).entries) × (SeesNothing (sight reader.old.place) (sight reader.new.place) known result.0 ⊎ SeesMore (sight reader.old.place) (sight reader.new.place) known result.0)) }
+{
+    if !is_behind {
+        return enter_at(reader, known);
+    }
+    match look_at(reader, known, least) {
+        (known, Err(_)) => (known, Err(NoMemory)),
+        (known, Ok(_)) => enter_at(reader, known),
+    }
+}
+
 impl<E: Drop> EditionReader<E> {
     // A reader that has seen nothing.
-    pub(crate) fn new(reader: SlotReader<E>, knowledge: Knowledge<E>) -> EditionReader<E>
-        requires { IsReader (sight reader.place) knowledge }
-        ensures { result ≡ view_by (sight reader.place) knowledge }
+    pub(crate) fn new(
+        reader: SlotReader<E>,
+        nothing: Token<E>,
+        knowledge: Knowledge<E>,
+    ) -> EditionReader<E>
+        requires nothing { nothing.log ≡ [] }
+        requires reader { IsReader (sight reader.place) nothing 0 knowledge }
+        ensures { result ≡ view_by (sight reader.place) nothing knowledge }
     {
-        EditionReader { reader, knowledge }
+        EditionReader {
+            reader,
+            seen: nothing,
+            count: 0,
+            knowledge,
+        }
     }
 
     /// Gives the newest edition of the history at this step, which waits for nobody. From then on the reader
@@ -193,7 +250,7 @@ impl<E: Drop> EditionReader<E> {
     /// # Errors
     ///
     /// `NoMemory` where the entry is refused, or a further owner of the edition. The view is then as it was,
-    /// or has gained that one entry.
+    /// or has gained that one entry, of the newest edition.
     pub fn enter(&mut self) -> Mem<Entered<E>>
         // What the entry gives.
         ensures number { IfOk result (λ entered. entered.number ≡ length self.new.seen) }
@@ -203,7 +260,7 @@ impl<E: Drop> EditionReader<E> {
         ensures last { OnOk result (IsTrue self.old.closed → self.new.seen ≡ self.old.told) }
 
         // What stays, whatever the answer.
-        ensures refused { OnErr result ((self.new ≡ self.old) ⊎ GainsEntry self.old self.new) }
+        ensures refused { OnErr result ((self.new ≡ self.old) ⊎ (GainsEntry self.old self.new × StartsWith self.new.seen self.old.told)) }
         ensures opening { self.new.opening ≡ self.old.opening }
         ensures later { StartsWith self.new.seen self.old.seen }
         ensures told { self.new.told ≡ self.old.told }
@@ -211,17 +268,23 @@ impl<E: Drop> EditionReader<E> {
         ensures view { IsView self.new }
     {
         let known = self.knowledge.all.again();
-        let (all, entered) = enter_at(&mut self.reader, known, self.knowledge.number);
+        let least = self.knowledge.number;
+        let is_behind = self.count < least;
+        let (all, noted) = enter_informed(&mut self.reader, known, least, is_behind);
         self.knowledge.all = all;
-        entered
+        let noted = noted?;
+        self.seen = noted.sighting.seen;
+        self.count = noted.sighting.count;
+        noted.entered
     }
 
     /// Sees the history as it is at this step, which waits for nobody, without an entry.
     ///
     /// # Errors
     ///
-    /// `NoMemory` where the step is refused. The reader has then seen what it had seen, or more.
+    /// `NoMemory` where the step is refused. The view is then as it was.
     pub fn look(&mut self) -> Mem<()>
+        ensures refused { OnErr result (self.new ≡ self.old) }
         ensures informed { OnOk result (StartsWith self.new.seen self.old.told) }
         ensures last { OnOk result (IsTrue self.old.closed → self.new.seen ≡ self.old.told) }
         ensures entries { self.new.entries ≡ self.old.entries }
@@ -232,9 +295,12 @@ impl<E: Drop> EditionReader<E> {
         ensures view { IsView self.new }
     {
         let known = self.knowledge.all.again();
-        let (all, seen) = look_at(&mut self.reader, known, self.knowledge.number);
+        let (all, sighting) = look_at(&mut self.reader, known, self.knowledge.number);
         self.knowledge.all = all;
-        seen
+        let sighting = sighting?;
+        self.seen = sighting.seen;
+        self.count = sighting.count;
+        Ok(())
     }
 
     /// Learns what the publisher told. From then on each entry is at least as new, and where that was told

@@ -87,12 +87,7 @@ fn an_edition_that_nobody_has_is_dropped(rt: HostRuntime) {
 }
 
 // Publishes editions up to this number, as far as memory allows, and answers how many the history has then.
-fn publish_up_to<R: Wait>(
-    rt: &R,
-    alloc: Global,
-    publisher: &mut Publisher<u64>,
-    last: u64,
-) -> u64
+fn publish_up_to<R: Wait>(rt: &R, alloc: Global, publisher: &mut Publisher<u64>, last: u64) -> u64
     requires { publisher.old.closed ≡ false }
 {
     for _ in 0..last {
@@ -139,7 +134,12 @@ fn watch_one(watched: &mut Watched) {
 // Each reader enters in a thread of its own.
 fn watch_all<R: Threads + Sync>(rt: &R, watched: &mut Vec<Watched>) {
     let threads = watched.len().max(1);
-    for_each_mut(rt, watched.as_mut_slice(), threads, &|_, one| watch_one(one));
+    for_each_mut(
+        rt,
+        watched.as_mut_slice(),
+        threads,
+        &|_, one| watch_one(one),
+    );
 }
 
 #[test]

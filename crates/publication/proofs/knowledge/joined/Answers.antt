@@ -19,15 +19,15 @@ meet g c = record {
 longer : (g : _) (c : Joined-mine g) → Longer c.args.mine.now c.args.other.now c.again-2.result.log c.if-mine-other.longer.now.number
 longer g c =
     elim c.if-mine-other.branch [
-      then-mine-other w ↦ inl (w.if-mine-other.true, ap (λ s. s.log) c.again-2.ensures ∙ ap (λ k. k.now.told.log) w.longer-is, ap (λ k. k.now.number) w.longer-is)
-    | else-mine-other w ↦ inr (w.if-mine-other.false, ap (λ s. s.log) c.again-2.ensures ∙ ap (λ k. k.now.told.log) w.longer-is, ap (λ k. k.now.number) w.longer-is)
+      | then-mine-other w ↦ inl (w.if-mine-other.true, ap (λ s. s.log) c.again-2.ensures ∙ ap (λ k. k.now.told.log) w.longer-is, ap (λ k. k.now.number) w.longer-is)
+      | else-mine-other w ↦ inr (w.if-mine-other.false, ap (λ s. s.log) c.again-2.ensures ∙ ap (λ k. k.now.told.log) w.longer-is, ap (λ k. k.now.number) w.longer-is)
     ]
 
 books : (g : _) (c : Joined-mine g) → c.again-2.result.book ≡ c.args.mine.now.origin.book
 books g c =
     elim c.if-mine-other.branch [
-      then-mine-other w ↦ ap (λ s. s.book) c.again-2.ensures ∙ ap (λ k. k.now.told.book) w.longer-is ∙ c.requires.other.told_book ∙ c.requires.same
-    | else-mine-other w ↦ ap (λ s. s.book) c.again-2.ensures ∙ ap (λ k. k.now.told.book) w.longer-is ∙ c.requires.mine.told_book
+      | then-mine-other w ↦ ap (λ s. s.book) c.again-2.ensures ∙ ap (λ k. k.now.told.book) w.longer-is ∙ c.requires.other.told_book ∙ c.requires.same
+      | else-mine-other w ↦ ap (λ s. s.book) c.again-2.ensures ∙ ap (λ k. k.now.told.book) w.longer-is ∙ c.requires.mine.told_book
     ]
 
 closed : (g : _) (c : Joined-mine g) → c.if-mine.result ≡ (c.args.mine.now.closed || c.args.other.now.closed)

@@ -18,7 +18,7 @@ publish_at-requires-clause-sound g c =
     let unclosed : c.self.inside.closed ≡ false = ap (λ view. view.closed) c.self.view_is ∙ c.requires.unclosed in
     let change : Slot _ = record { edition = c.args.next; number = c.published.result.now.number + 1; log = c.again.result } in
     let log : change.log.log ≡ slot.log.log ++ Some (arc_value c.args.next) ∷ [] =
-        ap (λ token. token.log) c.again.ensures ∙ c.add_entry.ensures.added ∙ ap (λ l. l ++ Some (arc_value c.args.next) ∷ []) (c.self.invariant.0.all unclosed) in
+    ap (λ token. token.log) c.again.ensures ∙ c.add_entry.ensures.added ∙ ap (λ l. l ++ Some (arc_value c.args.next) ∷ []) (c.self.invariant.0.all unclosed) in
     change_sound slot change c.self.invariant.0.sound (ap (λ s. s.number + 1) c.published.ensures) log
 
 pub invariant_of-self : goal.invariant_of-self
@@ -28,7 +28,7 @@ invariant_of-self g c =
     let unclosed : c.self.inside.closed ≡ false = ap (λ view. view.closed) c.self.view_is ∙ c.requires.unclosed in
     let change : Slot _ = record { edition = c.args.next; number = c.published.result.now.number + 1; log = c.again.result } in
     let log : change.log.log ≡ slot.log.log ++ Some (arc_value c.args.next) ∷ [] =
-        ap (λ token. token.log) c.again.ensures ∙ c.add_entry.ensures.added ∙ ap (λ l. l ++ Some (arc_value c.args.next) ∷ []) (is.all unclosed) in
+    ap (λ token. token.log) c.again.ensures ∙ c.add_entry.ensures.added ∙ ap (λ l. l ++ Some (arc_value c.args.next) ∷ []) (is.all unclosed) in
     let sound : IsSound change = change_sound slot change is.sound (ap (λ s. s.number + 1) c.published.ensures) log in
     let books : change.log.book ≡ slot.log.book = ap (λ token. token.book) c.again.ensures ∙ c.add_entry.ensures.book ∙ is.log_book in
     let new = c.publish_at.new.writer.desk.shown.value in (
@@ -44,7 +44,7 @@ returns-clause-history g c =
     let unclosed : c.self.inside.closed ≡ false = ap (λ view. view.closed) c.self.view_is ∙ c.requires.unclosed in
     let change : Slot _ = record { edition = c.args.next; number = c.published.result.now.number + 1; log = c.again.result } in
     let log : change.log.log ≡ slot.log.log ++ Some (arc_value c.args.next) ∷ [] =
-        ap (λ token. token.log) c.again.ensures ∙ c.add_entry.ensures.added ∙ ap (λ l. l ++ Some (arc_value c.args.next) ∷ []) (c.self.invariant.0.all unclosed) in
+    ap (λ token. token.log) c.again.ensures ∙ c.add_entry.ensures.added ∙ ap (λ l. l ++ Some (arc_value c.args.next) ∷ []) (c.self.invariant.0.all unclosed) in
     editions_more slot change c.publish_at.new.writer.desk.shown.value c.publish_at.ensures.shown log ∙ ap (λ view. view.editions ++ arc_value c.args.next ∷ []) c.self.view_is
 
 pub returns-clause-number : goal.returns-clause-number

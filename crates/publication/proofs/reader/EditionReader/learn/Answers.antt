@@ -19,12 +19,14 @@ pub returns-clause-view : goal.returns-clause-view
 returns-clause-view g c =
     let is = c.self.invariant in
     let origin = ap (λ s. s.book) c.joined.ensures.origin in
-    view_holds (sight c.self.inside.reader.place) c.joined.result (record {
+    view_holds (sight c.self.inside.reader.place) c.self.inside.seen c.self.inside.count c.joined.result (record {
       told = c.joined.ensures.told;
       opened = is.opened;
       book = is.book ∙ sym origin;
+      counted = is.counted;
       unclosed = is.unclosed;
       begins = prefix_then _ _ _ is.begins c.joined.ensures.kept;
+      within = is.within;
       rising = is.rising;
       entered = is.entered;
     })

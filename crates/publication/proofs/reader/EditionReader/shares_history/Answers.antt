@@ -14,8 +14,7 @@ returns g c =
     let all = c.learn.new.self.log in
     let mine = subst (λ (log : List _). IsPrefix log all) (ap (λ token. token.log) c.again-all.ensures) c.learn.ensures.2 in
     let theirs = c.learn.ensures.3 in
-    let other_view = view_by (sight c.other.inside.reader.place) c.other.inside.knowledge in
-    subst (λ view. ShareHistory view c.args.other.now) c.self.view_is (subst (λ view. ShareHistory (view_by (sight c.self.inside.reader.place) c.self.inside.knowledge) view) c.other.view_is (record {
+    subst (λ view. ShareHistory view c.args.other.now) c.self.view_is (subst (λ view. ShareHistory (view_by (sight c.self.inside.reader.place) c.self.inside.seen c.self.inside.knowledge) view) c.other.view_is (record {
       history = editions_of all;
       one_seen = editions_begin _ all (prefix_then _ _ _ c.self.invariant.begins mine);
       one_told = editions_begin _ all (prefix_then _ _ _ c.self.invariant.told.begins mine);

@@ -4,4 +4,4 @@ use Rattle.publication.proofs.Reading.{view_holds}
 use Rattle.publication.proofs.reader.EditionReader.view_holds.Goals as goal
 
 pub returns : goal.returns
-returns g c = subst (λ view. IsView view) c.self.view_is (view_holds _ _ c.self.invariant)
+returns g c = subst (λ view. IsView view) c.self.view_is (view_holds _ _ _ _ c.self.invariant)
