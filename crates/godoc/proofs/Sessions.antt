@@ -3,15 +3,16 @@ use Rattle.std.proofs.Common.{◌≡◌, ◌≢◌, ℕ, zero, suc, ◌-◌, ◌
 use Rattle.std.specs.Prelude.{IsSome, slice_get}
 use Rattle.std.specs.List.{concat}
 use Rattle.std.proofs.lemmas.Bool.{false≢true}
-use Rattle.std.proofs.lemmas.List.Elements.{All-head, All-tail}
+use Rattle.std.proofs.lemmas.List.Elements.{All-head, All-tail, All-weaker}
 use Rattle.http_wire.specs.declared.request.Request.{Request}
 use Rattle.http_wire.specs.Requests.{StreamEnd}
-use Rattle.publication.specs.View.{View, Opening, IsOfOneEdition, StartsWith, newcomer}
+use Rattle.publication.specs.View.{View, StartsWith, newcomer}
 use Rattle.session.specs.declared.session_end.SessionEnd.{SessionEnd}
 use Rattle.session.specs.declared.session_end.SessionEnd.TheVariants as ends
 use Rattle.session.specs.Session.{IsAnswered, Session}
 use Rattle.session.specs.Text.{Replier, answerable, edition_at, refusal, replies_from}
 use Rattle.session.proofs.SessionLaws.{Session-unbegun, replies-grown}
+use Rattle.session.proofs.TextLemmas.{edition_at-grown}
 use Rattle.godoc.specs.Replies.{reply_of}
 use Rattle.godoc.specs.Serving.{Serves}
 
@@ -49,16 +50,6 @@ entries_are edition (entry ∷ entries) known =
     let rest = entries_are edition entries (All-tail P entry entries known) in
     ap (λ n. n ∷ entries) first ∙ ap (λ ns. 1 ∷ ns) rest
 
-no_entry : (E : Type 0) (entry : ℕ) → IsSome (edition_at {E = E} [] entry) → ⊥
-no_entry E zero known = false≢true known
-no_entry E (suc place) known = false≢true known
-
-no_entries : {E : Type 0} (edition : E) (entries : List ℕ) → All (λ entry. IsSome (edition_at {E = E} [] entry)) entries
-    → entries ≡ replicate (length entries) 1
-no_entries edition [] known = refl
-no_entries {E} edition (entry ∷ entries) known =
-    absurd (no_entry E entry (All-head (λ n. IsSome (edition_at {E = E} [] n)) entry entries known))
-
 -- a session of a reader that saw so much of the history
 serves_by : (paths : List (List ℕ)) (left left_after held held_after : Option (List ℕ)) (old new : View (List (List ℕ))) (result : SessionEnd) (more : List (List (List ℕ)))
     → (s : Session reply_of left left_after held held_after old new result) → new.seen ++ more ≡ paths ∷ [] → s.entries ≡ replicate (length s.entries) 1
@@ -77,20 +68,19 @@ serves_by paths left left_after held held_after old new result more s whole ones
       (IsAnswered-grown reply_of new.seen more requests end s.entries s.written result s.known (s.answers requests end all)));
 }
 
+-- a session of a reader that has seen nothing beyond this one edition
 pub Serves-session : (paths : List (List ℕ)) (left left_after held held_after : Option (List ℕ)) (old new : View (List (List ℕ))) (result : SessionEnd)
-    → Session reply_of left left_after held held_after old new result → new.opening.first ≡ paths → IsOfOneEdition new
+    → Session reply_of left left_after held held_after old new result → StartsWith (paths ∷ []) new.seen
     → Serves paths left left_after held held_after result
-Serves-session paths left left_after held held_after old new result s opening one = ⊎_elim
-    (λ none. serves_by paths left left_after held held_after old new result (paths ∷ []) s (ap (λ l. l ++ paths ∷ []) none)
-    (no_entries paths s.entries (subst (λ (seen : List (List (List ℕ))). All (λ entry. IsSome (edition_at seen entry)) s.entries) none s.known)))
-    (λ some.
-    let seen : new.seen ≡ paths ∷ [] = some ∙ ap (λ p. p ∷ []) opening in
-    serves_by paths left left_after held held_after old new result [] s (ap (λ l. l ++ []) seen)
-    (entries_are paths s.entries (subst (λ (seen : List (List (List ℕ))). All (λ entry. IsSome (edition_at seen entry)) s.entries) seen s.known)))
-    one
+Serves-session paths left left_after held held_after old new result s begins =
+    let known : All (λ entry. IsSome (edition_at (paths ∷ []) entry)) s.entries =
+        All-weaker (λ entry. IsSome (edition_at new.seen entry)) (λ entry. IsSome (edition_at (paths ∷ []) entry))
+        (λ entry some. subst (λ (w : Option (List (List ℕ))). IsSome w) (sym (ap (λ (w : List (List (List ℕ))). edition_at w entry) begins.1 ∙ edition_at-grown new.seen begins.0 entry some)) some)
+        s.entries s.known in
+    serves_by paths left left_after held held_after old new result begins.0 s (sym begins.1) (entries_are paths s.entries known)
 
 -- a session that was not begun for want of memory
 pub Serves-unbegun : (paths : List (List ℕ)) (left held : Option (List ℕ)) → Serves paths left left held held ends.NoMemory
 Serves-unbegun paths left held =
-    let view : View (List (List ℕ)) = newcomer (record { first = paths }) in
-    Serves-session paths left left held held view view ends.NoMemory (Session-unbegun reply_of left held view) refl (inl refl)
+    let view : View (List (List ℕ)) = newcomer (record { book = record { number = 0; log_name = 0; cells_name = 0 }; editions = paths ∷ [] }) in
+    Serves-session paths left left held held view view ends.NoMemory (Session-unbegun reply_of left held view) (paths ∷ [], refl)

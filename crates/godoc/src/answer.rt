@@ -1,33 +1,23 @@
 //! The command `answer`: the requests of one connection, answered by one edition.
 
-ghost use Rattle.std.specs.Prelude.{◌≡◌, ◌≢◌, ◌⊎◌, IfOk};
+ghost use Rattle.std.specs.Prelude.{◌≡◌, ◌≢◌, ◌⊎◌, true, List, ℕ, [], ◌∷◌, All};
 ghost use Rattle.plain_data.specs.Causes.{IsCaused};
-ghost use Rattle.publication.specs.View.{newcomer};
 ghost use Rattle.godoc.specs.Outcome.{OpensAtMostOne};
 ghost use Rattle.godoc.specs.Serving.{Answers, IsOfAnswer, Serves};
 
 use crate::edition::{Edition, scan_tree};
 use crate::site::Site;
 use crate::status::Status;
-use go_ast::{IoFail, Mem};
+use go_ast::IoFail;
 use link_io::{Both, Link, Sink, Source};
-use publication::{EditionReader, open_editions};
+use publication::{EditionReader, Told, open_editions};
 use session::{SessionEnd, serve_link};
 use std::alloc::Global;
-use std::sync::Arc;
+use std::sync::{Arc, Wait};
 use tree_io::Tree;
 
-/// The one reader of a history that has one edition.
-fn open_edition(alloc: Global, edition: Edition) -> Mem<EditionReader<Edition>>
-    ensures { IfOk result (λ reader. reader ≡ newcomer (record { first = edition })) }
-{
-    let first = Arc::new(alloc, edition)?;
-    let (_, mut readers) = open_editions(alloc, first, 1)?;
-    Ok(readers.pop().unwrap())
-}
-
-/// Serves one connection by one edition, and tells why the session ended.
-fn serve<L: Link>(alloc: Global, edition: Edition, link: &mut L) -> SessionEnd
+/// Serves one connection by a history of one edition, and tells why the session ended.
+fn serve<R: Wait, L: Link>(rt: &R, alloc: Global, edition: Edition, link: &mut L) -> SessionEnd
     ensures session { Serves edition (L.remaining link.old) (L.remaining link.new)
         (L.held link.old) (L.held link.new) result }
     ensures read_faults { IsCaused (L.read_faults link.old) (L.read_faults link.new)
@@ -36,14 +26,46 @@ fn serve<L: Link>(alloc: Global, edition: Edition, link: &mut L) -> SessionEnd
         (result ≡ SessionEnd.WriteFault) }
     ensures same_references { L.Source.references link.new ≡ L.Source.references link.old }
 {
-    let Ok(mut reader) = open_edition(alloc, edition) else {
+    let Ok(first) = Arc::new(alloc, edition) else {
         return SessionEnd::NoMemory;
     };
+    let Ok((mut publisher, readers)) = open_editions(rt, alloc, first, 1) else {
+        return SessionEnd::NoMemory;
+    };
+    let told = publisher.tell_last();
+    let end = serve_told(alloc, link, readers, told);
+    publisher.close(rt);
+    end
+}
+
+/// Serves one connection by the one reader, which learns first what it was told for the last time.
+fn serve_told<L: Link>(
+    alloc: Global,
+    link: &mut L,
+    mut readers: Vec<EditionReader<Edition>>,
+    told: Told<Edition>,
+) -> SessionEnd
+    requires opening { All (λ reader. reader.opening ≡ told.opening) readers.items }
+    requires closed { told.closed ≡ true }
+    ensures session { (edition : List (List ℕ)) → told.editions ≡ edition ∷ []
+        → Serves edition (L.remaining link.old) (L.remaining link.new)
+        (L.held link.old) (L.held link.new) result }
+    ensures read_faults { IsCaused (L.read_faults link.old) (L.read_faults link.new)
+        (result ≡ SessionEnd.ReadFault) }
+    ensures write_faults { IsCaused (L.write_faults link.old) (L.write_faults link.new)
+        (result ≡ SessionEnd.WriteFault) }
+    ensures same_references { L.Source.references link.new ≡ L.Source.references link.old }
+{
+    let Some(mut reader) = readers.pop() else {
+        return SessionEnd::NoMemory;
+    };
+    reader.learn(told);
     serve_link(alloc, link, &mut reader, &Site)
 }
 
 /// Serves the connection whose two ways are the input and the output.
-fn serve_between<I: Source, O: Sink>(
+fn serve_between<R: Wait, I: Source, O: Sink>(
+    rt: &R,
     alloc: Global,
     edition: Edition,
     input: &mut I,
@@ -56,11 +78,12 @@ fn serve_between<I: Source, O: Sink>(
     ensures write_faults { IsCaused (O.write_faults out.old) (O.write_faults out.new)
         (result ≡ SessionEnd.WriteFault) }
 {
-    serve(alloc, edition, &mut Both { input, out })
+    serve(rt, alloc, edition, &mut Both { input, out })
 }
 
 /// Scans a tree once, and answers the requests of the input by the edition of that scan.
-pub(crate) fn answer<T: Tree, I: Source, O: Sink>(
+pub(crate) fn answer<R: Wait, T: Tree, I: Source, O: Sink>(
+    rt: &R,
     alloc: Global,
     tree: &mut T,
     input: &mut I,
@@ -87,7 +110,7 @@ pub(crate) fn answer<T: Tree, I: Source, O: Sink>(
     ensures at_most_one_scan { OpensAtMostOne (T.scans tree.old) (T.scans tree.new) }
 {
     match scan_tree(alloc, tree) {
-        Ok(edition) => Status::from(serve_between(alloc, edition, input, out)),
+        Ok(edition) => Status::from(serve_between(rt, alloc, edition, input, out)),
         Err(IoFail::Failed) => Status::TreeFault,
         Err(IoFail::NoMemory) => Status::NoMemory,
     }

@@ -13,6 +13,7 @@ use crate::status::Status;
 use crate::words::{Command, command_of};
 use link_io::{Sink, Source};
 use std::alloc::Global;
+use std::sync::Wait;
 use tree_io::Tree;
 
 /// Does what the words of the command line ask for, and tells how that ended.
@@ -26,8 +27,11 @@ use tree_io::Tree;
 /// the tree once, and serves the input and the output as the two ways of the connection, by the
 /// packages that the scan found. It ends with the input, after a request that closes, after what
 /// can't be a request, and after 1,000 replies. All other words give `Usage`.
-pub fn run<R, T: Tree, I: Source, O: Sink>(
-    _rt: &R,
+///
+/// `answer` ends its publisher, which may wait for readers that are entering; there are none then.
+/// What the clauses say holds if the call returns.
+pub fn run<R: Wait, T: Tree, I: Source, O: Sink>(
+    rt: &R,
     alloc: Global,
     words: &[String],
     tree: &mut T,
@@ -105,6 +109,6 @@ pub fn run<R, T: Tree, I: Source, O: Sink>(
             Ok(()) => Status::Done,
             Err(stop) => Status::from(stop),
         },
-        Command::Answer => answer(alloc, tree, input, out),
+        Command::Answer => answer(rt, alloc, tree, input, out),
     }
 }

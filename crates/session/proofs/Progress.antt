@@ -38,7 +38,8 @@ pub record Progress {E : Type 0} (reply : Replier E) (left left_after held held_
   pub gains : new.entries ≡ old.entries ++ entries
   pub known : All (λ entry. IsSome (edition_at new.seen entry)) entries
   pub later : StartsWith new.seen old.seen
-  pub fresh : All (λ entry. length old.seen ≤ entry) entries
+  pub told : new.told ≡ old.told
+  pub fresh : All (λ entry. (length old.seen ≤ entry) × (length old.told ≤ entry)) entries
   pub has_given : HasGiven read given rest
   pub none_closes : some_closes given ≡ false
   pub counted : length given ≡ count
@@ -57,6 +58,7 @@ Progress-nothing reply left held view = record {
   gains = sym (append-nil view.entries);
   known = All-nil _;
   later = ([], sym (append-nil view.seen));
+  told = refl;
   fresh = All-nil _;
   has_given = none_yet;
   none_closes = refl;
@@ -86,7 +88,7 @@ chosen_end (Some (b ∷ rest)) over result at_end fault =
 -- what holds whether the input ended or not makes a session
 pub Session-from : {E : Type 0} (reply : Replier E) (left left_after held held_after : Option (List ℕ)) (old new : View E) (result : SessionEnd) (read written entries : List ℕ) (over : Bool)
     → Takes left read left_after → Adds held written held_after → new.entries ≡ old.entries ++ entries
-    → All (λ entry. IsSome (edition_at new.seen entry)) entries → All (λ entry. length old.seen ≤ entry) entries
+    → All (λ entry. IsSome (edition_at new.seen entry)) entries → All (λ entry. (length old.seen ≤ entry) × (length old.told ≤ entry)) entries
     → (IsTrue over → IfSome left_after (λ rest. rest ≡ [])) → (result ≡ ends.ReadFault → over ≡ false)
     → ((ended : Bool) → (over ≡ true → ended ≡ true) → (result ≡ ends.ReadFault → ended ≡ false) → (requests : List Request) (end : StreamEnd)
     → Requests read ended requests end → IsAnswered reply new.seen requests end entries written result)
@@ -144,11 +146,15 @@ module _ {E : Type 0} {reply : Replier E} {left left_now held held_now : Option 
     later_with : StartsWith new.seen old.seen
     later_with = StartsWith-then old.seen view.seen new.seen so_far.later later
 
-    fresh_with : All (λ entry. length old.seen ≤ entry) (so_far.entries ++ length new.seen ∷ [])
+    told_with : new.told ≡ old.told
+    told_with = enters.told ∙ so_far.told
+
+    fresh_with : All (λ entry. (length old.seen ≤ entry) × (length old.told ≤ entry)) (so_far.entries ++ length new.seen ∷ [])
     fresh_with =
         let all = later_with in
-        All-push (λ entry. length old.seen ≤ entry) so_far.entries (length new.seen) so_far.fresh
-        (rw all.1 (simp length-append (omega arith)))
+        let more : StartsWith new.seen old.told = subst (λ (l : List E). StartsWith new.seen l) so_far.told enters.informed in
+        All-push (λ entry. (length old.seen ≤ entry) × (length old.told ≤ entry)) so_far.entries (length new.seen) so_far.fresh
+        (rw all.1 (simp length-append (omega arith)), rw more.1 (simp length-append (omega arith)))
 
     gains_with : new.entries ≡ old.entries ++ (so_far.entries ++ length new.seen ∷ [])
     gains_with =
@@ -185,6 +191,7 @@ Progress-more reply left middle after held held_now held_after old view new read
   gains = gains_with so_far new request last enters later last_is;
   known = known_with so_far new request last enters later last_is;
   later = later_with so_far new request last enters later last_is;
+  told = told_with so_far new request last enters later last_is;
   fresh = fresh_with so_far new request last enters later last_is;
   has_given = hears.comes so_far.read so_far.given so_far.has_given;
   none_closes = some_closes-append so_far.given (request ∷ []) ∙ by_parts (some_closes so_far.given) request.close so_far.none_closes goes_on;

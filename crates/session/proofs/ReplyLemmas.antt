@@ -7,10 +7,12 @@ use Rattle.http_wire.specs.declared.request.Request.{Request}
 use Rattle.publication.specs.View.{View, EndsWith, StartsWith, GainsEntry, IsView}
 use Rattle.session.specs.Text.{Replier, edition_at, reply_by}
 
--- the view gained one entry, that of the newest edition that it has seen
+-- the view gained one entry, that of the newest edition that it has seen, which is as new as what it was told
 pub record Enters {E : Type 0} (old new : View E) : Type 0 where
   pub entry : GainsEntry old new
   pub known : IsSome (edition_at new.seen (length new.seen))
+  pub informed : StartsWith new.seen old.told
+  pub told : new.told ≡ old.told
 
 -- the reply of the newest edition that the view has seen
 abbrev pub newest_reply : {E : Type 0} → Replier E → View E → Request → Bool → List ℕ
@@ -40,8 +42,8 @@ edition_at-within (x ∷ history) (suc (suc place)) some few =
     edition_at-within history (suc place) (omega arith) (omega arith)
 
 -- the entry that a view gained last is the number of an edition
-pub known_entry : {E : Type 0} (old new : View E) → IsView new → GainsEntry old new → Enters old new
-known_entry {E} old new view gains =
+pub known_entry : {E : Type 0} (old new : View E) → IsView new → GainsEntry old new → StartsWith new.seen old.told → new.told ≡ old.told → Enters old new
+known_entry {E} old new view gains informed told =
     let n = length new.seen in
     let entries : List ℕ = old.entries in
     let at_last : get_or new.entries (length entries) n ≡ n = rw gains (get_or_push entries n n (length entries) refl) in
@@ -50,6 +52,8 @@ known_entry {E} old new view gains =
     record {
       entry = gains;
       known = edition_at-within new.seen n (subst (λ (w : ℕ). 1 ≤ w) at_last known.0) (subst (λ (w : ℕ). w ≤ length new.seen) at_last known.1);
+      informed = informed;
+      told = told;
     }
 
 pub newest_reply-is : {E : Type 0} (reply : Replier E) (view : View E) (request : Request) (last : Bool) (newest : E)

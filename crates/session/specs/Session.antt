@@ -4,7 +4,8 @@ use Rattle.std.specs.Prelude.{◌≡◌, ◌≢◌, ℕ, ◌-◌, ◌≤◌, ◌
 use Rattle.http_wire.specs.declared.request.Request.{Request}
 use Rattle.http_wire.specs.Requests.{Requests, StreamEnd}
 use Rattle.link_io.specs.Streams.{Takes, Adds}
-use Rattle.publication.specs.View.{View, StartsWith}
+use Rattle.plain_data.specs.Causes.{IsCaused}
+use Rattle.publication.specs.View.{View, IsView, StartsWith}
 use Rattle.session.specs.declared.session_end.SessionEnd.{SessionEnd}
 use Rattle.session.specs.declared.session_end.SessionEnd.TheVariants as ends
 use Rattle.session.specs.Text.{Replier, answerable, edition_at, session_text, first_replies, end_of}
@@ -49,11 +50,28 @@ pub record Session {E : Type 0} (reply : Replier E)
   pub gains : new.entries ≡ old.entries ++ entries
   -- each entry is the number of an edition of the history, as it was seen at the end
   pub known : All (λ entry. IsSome (edition_at new.seen entry)) entries
-  -- and no older than what the reader had seen before
-  pub fresh : All (λ entry. length old.seen ≤ entry) entries
+  -- and no older than what the reader had seen before, and than what it was told
+  pub fresh : All (λ entry. (length old.seen ≤ entry) × (length old.told ≤ entry)) entries
   -- the input ended where nothing remains, unless a read failed
   pub end_is : IfSome remaining_after
       (λ rest. IsTrue ended ↔ ((rest ≡ []) × (result ≢ ends.ReadFault)))
   -- each stream has one list of requests and one end
   pub answers : (requests : List Request) (end : StreamEnd) → Requests read ended requests end
       → IsAnswered reply new.seen requests end entries written result
+
+-- All that one session did to a link and to a reader: what was read and written and why it ended,
+-- that it ended by a fault exactly where the count of these rose in it, or stands at its end, and
+-- what stays of the reader.
+pub record ServesLink {E : Type 0} (reply : Replier E)
+    (remaining remaining_after held held_after : Option (List ℕ))
+    (reads reads_after writes writes_after : ℕ) (old new : View E)
+    (result : SessionEnd) : Type 0 where
+  pub session : Session reply remaining remaining_after held held_after old new result
+  pub read_faults : IsCaused reads reads_after (result ≡ ends.ReadFault)
+  pub write_faults : IsCaused writes writes_after (result ≡ ends.WriteFault)
+  -- the reader stays one of the same opening, and has seen no less
+  pub opening : new.opening ≡ old.opening
+  pub later : StartsWith new.seen old.seen
+  pub told : new.told ≡ old.told
+  pub closed : new.closed ≡ old.closed
+  pub view : IsView new

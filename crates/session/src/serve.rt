@@ -4,8 +4,8 @@ ghost use Rattle.std.specs.Prelude.{◌≡◌, ℕ, ◌≤◌, ◌≢◌, length
 ghost use Rattle.std.specs.Arc.{arc_value};
 ghost use Rattle.plain_data.specs.Causes.{IsCaused};
 ghost use Rattle.http_wire.specs.Reply.{bad_reply_bytes};
-ghost use Rattle.publication.specs.View.{IsOfOneEdition, IsView, StartsWith};
-ghost use Rattle.session.specs.Session.{Session};
+ghost use Rattle.publication.specs.View.{IsView, StartsWith};
+ghost use Rattle.session.specs.Session.{ServesLink, Session};
 ghost use Rattle.session.specs.Steps.{Writes, end_by};
 ghost use Rattle.session.specs.Text.{is_last};
 
@@ -28,6 +28,8 @@ const REQUEST_LIMIT: u64 = 1_000;
 /// request gets the bad reply, which has no entry. A reply is made whole before its first byte is
 /// written, and a session that has failed writes no more.
 ///
+/// Each entry is at least as new as all that the reader had seen and was told before.
+///
 /// The session waits for nobody but the link, and ends on every link: each read takes a byte or
 /// ends the input, and 1,000 heads of at most 8,192 bytes end it.
 pub fn serve_link<L: Link, E: Drop, R: Responder<E>>(
@@ -36,26 +38,10 @@ pub fn serve_link<L: Link, E: Drop, R: Responder<E>>(
     reader: &mut EditionReader<E>,
     site: &R,
 ) -> SessionEnd
-    // What was read and written, which entries were gained, and why the session ended.
-    ensures session { Session (R.reply_of site.now) (L.remaining link.old) (L.remaining link.new)
-        (L.held link.old) (L.held link.new) reader.old reader.new result }
-
-    // On every link a session ends by a fault only where its count rose in this call, or stands at
-    // its end, and by anything else only where the count is as it was.
-    ensures read_faults { IsCaused (L.read_faults link.old) (L.read_faults link.new)
-        (result ≡ SessionEnd.ReadFault) }
-    ensures write_faults { IsCaused (L.write_faults link.old) (L.write_faults link.new)
-        (result ≡ SessionEnd.WriteFault) }
+    ensures serves { ServesLink (R.reply_of site.now) (L.remaining link.old) (L.remaining link.new)
+        (L.held link.old) (L.held link.new) (L.read_faults link.old) (L.read_faults link.new)
+        (L.write_faults link.old) (L.write_faults link.new) reader.old reader.new result }
     ensures same_references { L.Source.references link.new ≡ L.Source.references link.old }
-
-    // The reader stays one of the same opening, and has seen no less.
-    ensures opening { reader.new.opening ≡ reader.old.opening }
-    ensures later { StartsWith reader.new.seen reader.old.seen }
-    ensures told { reader.new.told ≡ reader.old.told }
-    ensures view { IsView reader.old → IsView reader.new }
-
-    // While there is one edition.
-    ensures one_edition { IsOfOneEdition reader.old → IsOfOneEdition reader.new }
 {
     match answer_requests(alloc, link, reader, site) {
         Ok(end) => end,
@@ -89,9 +75,10 @@ fn answer_requests<L: Link, E: Drop, R: Responder<E>>(
     ensures opening { reader.new.opening ≡ reader.old.opening }
     ensures later { StartsWith reader.new.seen reader.old.seen }
     ensures told { reader.new.told ≡ reader.old.told }
-    ensures view { IsView reader.old → IsView reader.new }
-    ensures one_edition { IsOfOneEdition reader.old → IsOfOneEdition reader.new }
+    ensures closed { reader.new.closed ≡ reader.old.closed }
+    ensures view { IsView reader.new }
 {
+    reader.view_holds();
     let mut heads = Heads::new(alloc)?;
     for answered in 0..REQUEST_LIMIT {
         let request = match next_head(alloc, link, &mut heads)? {

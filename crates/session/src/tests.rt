@@ -9,7 +9,7 @@ use link_io::{Both, Link, MemLink, MemSink, MemSource, Sink, Source};
 use plain_data::Mem;
 use publication::{EditionReader, open_editions};
 use std::alloc::Global;
-use std::sync::Arc;
+use std::sync::{Arc, Wait};
 use std::test::Fail;
 
 // A responder whose reply names the number, the edition, the verb and the target.
@@ -71,7 +71,8 @@ fn serve_between<I: Source, O: Sink, E: Drop, R: Responder<E>>(
 }
 
 // One session over a link in memory, with a reader of its own of the edition `e`.
-fn serve_stream(
+fn serve_stream<R: Wait>(
+    rt: &R,
     alloc: Global,
     stream: &[u8],
     cuts: &[u64],
@@ -85,10 +86,13 @@ fn serve_stream(
     let source = MemSource::new(stream.to_vec(alloc)?, cuts, [failing_read].to_vec(alloc)?);
     let sink = MemSink::new(alloc, most, [failing_write].to_vec(alloc)?);
     let mut link = MemLink::new(source, sink);
-    let (_publisher, mut readers) = open_editions(alloc, Arc::new(alloc, b'e')?, 1)?;
-    let mut reader = readers.pop().ok_or("a reader")?;
-    let end = serve_link(alloc, &mut link, &mut reader, &Naming);
-    Ok((end, link.held().to_vec(alloc)?))
+    let first = Arc::new(alloc, b'e')?;
+    let (publisher, mut readers) = open_editions(rt, alloc, first, 1)?;
+    let end = readers
+        .first_mut()
+        .map(|reader| serve_link(alloc, &mut link, reader, &Naming));
+    publisher.close(rt);
+    Ok((end.ok_or("a reader")?, link.held().to_vec(alloc)?))
 }
 
 const STREAM: &[u8] =
@@ -104,7 +108,7 @@ fn replies_do_not_depend_on_the_cut(rt: HostRuntime) -> Result<(), Fail> {
     let alloc = rt.alloc();
     for cut in 0..STREAM.len() as u64 {
         for most in [1, 5, 1_000] {
-            let (end, held) = serve_stream(alloc, STREAM, &[cut, cut + 7], 0, most.max(1), 0)?;
+            let (end, held) = serve_stream(&rt, alloc, STREAM, &[cut, cut + 7], 0, most.max(1), 0)?;
             assert_eq!(rt; end, SessionEnd::Closed, "cut at {cut}");
             assert_eq!(rt; held.as_slice(), REPLIES, "cut at {cut}");
         }
@@ -140,7 +144,7 @@ fn each_end_has_its_text(rt: HostRuntime) -> Result<(), Fail> {
         if *refused {
             text.extend_from_slice(BAD)?;
         }
-        let (end, held) = serve_stream(alloc, stream, &[3], 0, 9, 0)?;
+        let (end, held) = serve_stream(&rt, alloc, stream, &[3], 0, 9, 0)?;
         assert_eq!(rt; end, *want, "row {place}");
         assert_eq!(rt; held.as_slice(), text.as_slice(), "row {place}");
     }
@@ -158,7 +162,7 @@ fn a_failed_read_ends_the_session_after_the_replies_so_far(rt: HostRuntime) -> R
         (4, SessionEnd::ReadFault, "1eG/a\n1eH/b\n1eO/c\n"),
         (5, SessionEnd::Closed, "1eG/a\n1eH/b\n1eO/c\n"),
     ] {
-        let (end, text) = serve_stream(alloc, STREAM, &[28, 57], failing, 100, 0)?;
+        let (end, text) = serve_stream(&rt, alloc, STREAM, &[28, 57], failing, 100, 0)?;
         assert_eq!(rt; end, want, "read {failing}");
         assert_eq!(rt; text.as_slice(), held.as_bytes(), "read {failing}");
     }
@@ -178,11 +182,11 @@ fn a_failed_write_leaves_a_beginning_of_the_text(rt: HostRuntime) -> Result<(), 
         (5, 3, "1eG/a\n"),
         (5, 6, "1eG/a\n1eH/b\n1eO/c"),
     ] {
-        let (end, text) = serve_stream(alloc, STREAM, &[], 0, most.max(1), failing)?;
+        let (end, text) = serve_stream(&rt, alloc, STREAM, &[], 0, most.max(1), failing)?;
         assert_eq!(rt; end, SessionEnd::WriteFault, "write {failing}");
         assert_eq!(rt; text.as_slice(), held.as_bytes(), "write {failing}");
     }
-    let (end, text) = serve_stream(alloc, b"GET / HT", &[], 0, 5, 2)?;
+    let (end, text) = serve_stream(&rt, alloc, b"GET / HT", &[], 0, 5, 2)?;
     assert_eq!(rt; end, SessionEnd::WriteFault);
     assert_eq!(rt; text.as_slice(), b"HTTP/".as_slice());
     Ok(())
@@ -200,7 +204,7 @@ fn the_thousandth_reply_is_the_last(rt: HostRuntime) -> Result<(), Fail> {
         }
     }
     want.extend_from_slice(b"1eG/pkg/ Connection: close\n")?;
-    let (end, held) = serve_stream(alloc, stream.as_slice(), &[], 0, 100, 0)?;
+    let (end, held) = serve_stream(&rt, alloc, stream.as_slice(), &[], 0, 100, 0)?;
     assert_eq!(rt; end, SessionEnd::Full);
     assert!(rt; held == want);
     Ok(())
@@ -211,11 +215,33 @@ fn two_parts_make_a_link(rt: HostRuntime) -> Result<(), Fail> {
     let alloc = rt.alloc();
     let mut input = MemSource::new(STREAM.to_vec(alloc)?, Vec::new(alloc), Vec::new(alloc));
     let mut out = MemSink::new(alloc, 4, Vec::new(alloc));
-    let (_publisher, mut readers) = open_editions(alloc, Arc::new(alloc, b'e')?, 1)?;
-    let mut reader = readers.pop().ok_or("a reader")?;
+    let first = Arc::new(alloc, b'e')?;
+    let (publisher, mut readers) = open_editions(&rt, alloc, first, 1)?;
+    let mut reader = readers.pop().expect(&rt, "a reader");
     let end = serve_between(alloc, &mut input, &mut out, &mut reader, &Naming);
     assert_eq!(rt; end, SessionEnd::Closed);
     assert_eq!(rt; out.held(), REPLIES);
-    assert_eq!(rt; reader.enter()?.number, 1);
+    assert!(rt; matches!(reader.enter(), Ok(entered) if entered.number == 1));
+    publisher.close(&rt);
+    Ok(())
+}
+
+#[test]
+fn a_session_answers_by_the_editions_of_its_own_entries(rt: HostRuntime) -> Result<(), Fail> {
+    let alloc = rt.alloc();
+    let first = Arc::new(alloc, b'e')?;
+    let second = Arc::new(alloc, b'f')?;
+    let mut sink = MemSink::new(alloc, 100, Vec::new(alloc));
+    let mut input = MemSource::new(STREAM.to_vec(alloc)?, Vec::new(alloc), Vec::new(alloc));
+    let mut more = MemSource::new(STREAM.to_vec(alloc)?, Vec::new(alloc), Vec::new(alloc));
+    let (mut publisher, mut readers) = open_editions(&rt, alloc, first, 1)?;
+    let mut reader = readers.pop().expect(&rt, "a reader");
+    let end = serve_between(alloc, &mut input, &mut sink, &mut reader, &Naming);
+    assert_eq!(rt; end, SessionEnd::Closed);
+    assert!(rt; publisher.publish(&rt, second) == Ok(2));
+    let end = serve_between(alloc, &mut more, &mut sink, &mut reader, &Naming);
+    assert_eq!(rt; end, SessionEnd::Closed);
+    publisher.close(&rt);
+    assert_eq!(rt; sink.held(), b"1eG/a\n1eH/b\n1eO/c\n2fG/a\n2fH/b\n2fO/c\n".as_slice());
     Ok(())
 }

@@ -46,12 +46,12 @@ returns-in_err-entered-clause-session g c =
     let p = err_from_is_err_and c.from_residual-in_err-entered.result c.from_residual-in_err-entered.ensures.1 in
     rw (p.1, p.2, c.next_head.ensures.held)
     (Session-unentered _ _ _ _ _ _ _ _ _ _ _ _ _ c.loop-answered.invariant.progress (omega arith) hears (c.next_head.ensures.end c.loop-answered.invariant.end)
-    c.in_err-entered.ensures.later (⊎_elim inl (λ gains. inr (known_entry _ _ c.in_err-entered.ensures.view gains)) c.in_err-entered.ensures.refused))
+    c.in_err-entered.ensures.later (⊎_elim inl (λ gains. inr (known_entry _ _ c.in_err-entered.ensures.view gains.0 gains.1 c.in_err-entered.ensures.told)) c.in_err-entered.ensures.refused))
 
 pub returns-in_err-answer-clause-session : goal.returns-in_err-answer-clause-session
 returns-in_err-answer-clause-session g c =
     let hears = rw c.in-Head.is at c.in_ok-request.ensures.hears in
-    let enters = known_entry _ _ c.in_ok-entered.ensures.view c.in_ok-entered.ensures.entry in
+    let enters = known_entry _ _ c.in_ok-entered.ensures.view c.in_ok-entered.ensures.entry c.in_ok-entered.ensures.informed c.in_ok-entered.ensures.told in
     let made = newest_reply-made (g.R.Responder.reply_of c.args.site.now) c.enter.new.self c.in-Head.request c.is_last-last.result _ _ c.in_ok-entered.ensures.newest c.in_ok-entered.ensures.number in
     let p = err_from_is_err_and c.from_residual-in_err-answer.result c.from_residual-in_err-answer.ensures.1 in
     let writes = subst (λ (w : List ℕ). Writes w (g.L.Sink.held c.next_head.new.link) (g.L.Sink.held c.answer.new.link) (Err c.in_err-answer.field-0.0)) made c.in_err-answer.ensures.writes in
@@ -64,7 +64,7 @@ returns-in_err-answer-clause-session g c =
 pub returns-then-request-clause-session : goal.returns-then-request-clause-session
 returns-then-request-clause-session g c =
     let hears = rw c.in-Head.is at c.in_ok-request.ensures.hears in
-    let enters = known_entry _ _ c.in_ok-entered.ensures.view c.in_ok-entered.ensures.entry in
+    let enters = known_entry _ _ c.in_ok-entered.ensures.view c.in_ok-entered.ensures.entry c.in_ok-entered.ensures.informed c.in_ok-entered.ensures.told in
     let made = newest_reply-made (g.R.Responder.reply_of c.args.site.now) c.enter.new.self c.in-Head.request c.is_last-last.result _ _ c.in_ok-entered.ensures.newest c.in_ok-entered.ensures.number in
     let adds = subst (λ (w : List ℕ). Adds (g.L.Sink.held c.next_head.new.link) w (g.L.Sink.held c.answer.new.link)) made c.in_ok-answer.ensures.writes in
     rw c.answer.ensures.remaining
@@ -74,7 +74,7 @@ returns-then-request-clause-session g c =
 pub loop-answered-preserved : goal.loop-answered-preserved
 loop-answered-preserved g c =
     let hears = rw c.in-Head.is at c.in_ok-request.ensures.hears in
-    let enters = known_entry _ _ c.in_ok-entered.ensures.view c.in_ok-entered.ensures.entry in
+    let enters = known_entry _ _ c.in_ok-entered.ensures.view c.in_ok-entered.ensures.entry c.in_ok-entered.ensures.informed c.in_ok-entered.ensures.told in
     let made = newest_reply-made (g.R.Responder.reply_of c.args.site.now) c.enter.new.self c.in-Head.request c.is_last-last.result _ _ c.in_ok-entered.ensures.newest c.in_ok-entered.ensures.number in
     let adds = subst (λ (w : List ℕ). Adds (g.L.Sink.held c.next_head.new.link) w (g.L.Sink.held c.answer.new.link)) made c.in_ok-answer.ensures.writes in
     record {
@@ -88,8 +88,8 @@ loop-answered-preserved g c =
       opening = search rules;
       later = StartsWith-then _ _ _ c.loop-answered.invariant.later c.in_ok-entered.ensures.later;
       told = search rules;
-      view = λ _. c.in_ok-entered.ensures.view;
-      one_edition = λ _. c.in_ok-entered.ensures.one_edition;
+      closed = search rules;
+      view = c.in_ok-entered.ensures.view;
     }
 
 pub returns-clause-session : goal.returns-clause-session

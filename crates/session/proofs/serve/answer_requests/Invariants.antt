@@ -1,6 +1,6 @@
 -- So many requests were answered, none of them closes, and the reader of heads has not been told more than is so.
 use Rattle.std.proofs.Common.{◌≡◌, ◌≤◌}
-use Rattle.publication.specs.View.{IsOfOneEdition, IsView, StartsWith}
+use Rattle.publication.specs.View.{IsView, StartsWith}
 use Rattle.session.specs.Incoming.{KnowsEnd}
 use Rattle.session.proofs.Progress.{Progress}
 use Rattle.session.proofs.serve.answer_requests.Given as goal
@@ -15,6 +15,6 @@ invariant-loop-answered g l = record {
   opening : l.reader.opening ≡ l.initial.reader.opening;
   later : StartsWith l.reader.seen l.initial.reader.seen;
   told : l.reader.told ≡ l.initial.reader.told;
-  view : IsView l.initial.reader → IsView l.reader;
-  one_edition : IsOfOneEdition l.initial.reader → IsOfOneEdition l.reader;
+  closed : l.reader.closed ≡ l.initial.reader.closed;
+  view : IsView l.reader;
 }
