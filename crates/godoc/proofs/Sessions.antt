@@ -11,8 +11,7 @@ use Rattle.session.specs.declared.session_end.SessionEnd.{SessionEnd}
 use Rattle.session.specs.declared.session_end.SessionEnd.TheVariants as ends
 use Rattle.session.specs.Session.{IsAnswered, Session}
 use Rattle.session.specs.Text.{Replier, answerable, edition_at, refusal, replies_from}
-use Rattle.session.proofs.SessionLaws.{Session-unbegun, replies-grown}
-use Rattle.session.proofs.TextLemmas.{edition_at-grown}
+use Rattle.session.proofs.SessionLaws.{Session-unbegun, edition_at-grown, replies-grown}
 use Rattle.godoc.specs.Replies.{reply_of}
 use Rattle.godoc.specs.Serving.{Serves}
 

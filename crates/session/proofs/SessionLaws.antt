@@ -1,3 +1,3 @@
 -- Laws of sessions, for the crates above.
 pub use Rattle.session.proofs.Progress.{Session-unbegun}
-pub use Rattle.session.proofs.TextLemmas.{replies-grown}
+pub use Rattle.session.proofs.TextLemmas.{edition_at-grown, replies-grown}
