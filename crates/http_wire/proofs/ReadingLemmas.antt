@@ -8,18 +8,20 @@ use Rattle.httparse.specs.Grammar.{print_request, ReadsRequest, HasNoRequest}
 use Rattle.http_wire.specs.declared.request.Request.{Request}
 use Rattle.http_wire.specs.declared.heads.Next.{Next}
 use Rattle.http_wire.specs.declared.heads.Next.TheVariants as answers
-use Rattle.http_wire.specs.Requests.{StreamEnd, BeginsWith, StandsHead, HasNoHead, BreaksRule, IsRefused, breaks_rule, too_long, cut_off, Clean, Bad, Unfinished, Requests, refused, ends, waits, HasGiven, one_more, has_other_byte}
+use Rattle.http_wire.specs.Requests.{StreamEnd, BeginsWith, StandsHead, HasNoHead, BreaksRule, IsHopeless, IsRefused, breaks_rule, hopeless, too_long, cut_off, Clean, Bad, Unfinished, Requests, refused, ends, waits, HasGiven, one_more, has_other_byte}
+use Rattle.http_wire.specs.Front.{MayGoOn}
 use Rattle.http_wire.specs.Reading.{Reading, Answers, AnswersOfAll, answer_of}
-use Rattle.http_wire.proofs.StreamLemmas.{front_within, BeginsWith-append, BreaksRule-append, HasNoHead-from_broken, HasNoHead-not_begins, Requests_unique, Requests-after_given}
+use Rattle.http_wire.proofs.LineLemmas.{IsHopeless-append}
+use Rattle.http_wire.proofs.StreamLemmas.{HasNoHead-from_hopeless, front_within, BeginsWith-append, BreaksRule-append, HasNoHead-from_broken, HasNoHead-not_begins, Requests_unique, Requests-after_given}
 
 pub begins_from_front : (rest : List ℕ) (n len : ℕ) (request : Request) → len ≤ length (take n rest)
     → BeginsWith (take n rest) request (drop len (take n rest)) → BeginsWith rest request (drop len rest)
 begins_from_front rest n len request inside x =
     let whole : take n rest ++ drop n rest ≡ rest = take-append-drop n rest in
-    let left : drop len (take n rest) ++ drop n rest ≡ drop len rest =
+    let remaining : drop len (take n rest) ++ drop n rest ≡ drop len rest =
     sym (drop-append-le len (take n rest) (drop n rest) inside) ∙ ap (drop len) whole in
     subst (λ w. BeginsWith w request (drop len rest)) whole
-    (subst (BeginsWith (take n rest ++ drop n rest) request) left
+    (subst (BeginsWith (take n rest ++ drop n rest) request) remaining
     (BeginsWith-append (take n rest) request (drop len (take n rest)) (drop n rest) x))
 
 pub stands_from_front : (rest : List ℕ) (n : ℕ) → StandsHead (take n rest) → StandsHead rest
@@ -35,6 +37,11 @@ bad_from_front rest n ended broken =
     let here : BreaksRule rest = subst BreaksRule (take-append-drop n rest) (BreaksRule-append (take n rest) (drop n rest) broken) in
     refused rest ended (HasNoHead-from_broken rest here) (breaks_rule here)
 
+pub bad_if_hopeless : (rest : List ℕ) (n : ℕ) (ended : Bool) → IsHopeless (take n rest) → Requests rest ended [] Bad
+bad_if_hopeless rest n ended front =
+    let here : IsHopeless rest = subst IsHopeless (take-append-drop n rest) (IsHopeless-append (take n rest) (drop n rest) front) in
+    refused rest ended (HasNoHead-from_hopeless rest here) (hopeless here)
+
 -- ---- no head of the grammar stands in as many first bytes as a head may have
 
 pub no_head_in_rest : (rest : List ℕ) (n : ℕ) → n ≡ min (length rest) 8192 → HasNoRequest (take n rest) → HasNoHead rest
@@ -47,61 +54,64 @@ no_head_in_rest rest n is none =
     none head (drop (length text) (take n rest))
     (reads.0, front_within (take n rest) (drop n rest) text after (take-append-drop n rest ∙ reads.1) inside)
 
-pub bad_when_over : (rest : List ℕ) (n : ℕ) (ended : Bool) → n ≡ min (length rest) 8192 → HasNoRequest (take n rest)
+pub bad_when_over : (rest : List ℕ) (n : ℕ) (ended : Bool) → n ≡ min (length rest) 8192 → MayGoOn (take n rest)
     → (8192 ≤ length rest) ⊎ (IsTrue ended × IsTrue (has_other_byte rest)) → Requests rest ended [] Bad
 bad_when_over rest n ended is none over =
-    refused rest ended (no_head_in_rest rest n is none) (⊎_elim too_long (λ both. cut_off both.0 both.1) over)
+    refused rest ended (no_head_in_rest rest n is none.none) (⊎_elim too_long (λ both. cut_off both.0 both.1) over)
 
-not_refused : (rest : List ℕ) (n : ℕ) (ended : Bool) → n ≡ min (length rest) 8192 → HasNoRequest (take n rest)
+not_refused : (rest : List ℕ) (n : ℕ) (ended : Bool) → n ≡ min (length rest) 8192 → MayGoOn (take n rest)
     → ((8192 ≤ length rest) ⊎ (IsTrue ended × IsTrue (has_other_byte rest)) → ⊥) → IsRefused rest ended → ⊥
 not_refused rest n ended is none sound (breaks_rule broken) =
     ⊎_elim
     (λ short.
     let all : take n rest ≡ rest = take_all n rest (omega arith) in
-    none broken.0 broken.1 (subst (λ w. ReadsRequest w broken.0 broken.1) (sym all) broken.2))
+    none.none broken.0 broken.1 (subst (λ w. ReadsRequest w broken.0 broken.1) (sym all) broken.2))
+    (λ long. sound (inl long)) (cases_lt (length rest) 8192)
+not_refused rest n ended is none sound (hopeless never) =
+    ⊎_elim (λ short. none.not_hopeless (subst IsHopeless (sym (take_all n rest (omega arith))) never))
     (λ long. sound (inl long)) (cases_lt (length rest) 8192)
 not_refused rest n ended is none sound (too_long long) = sound (inl long)
 not_refused rest n ended is none sound (cut_off over other) = sound (inr (over, other))
 
-pub clean_otherwise : (rest : List ℕ) (n : ℕ) (ended : Bool) → n ≡ min (length rest) 8192 → HasNoRequest (take n rest)
+pub clean_otherwise : (rest : List ℕ) (n : ℕ) (ended : Bool) → n ≡ min (length rest) 8192 → MayGoOn (take n rest)
     → ((8192 ≤ length rest) ⊎ (IsTrue ended × IsTrue (has_other_byte rest)) → ⊥) → ended ≡ true
     → Requests rest ended [] Clean
-clean_otherwise rest n true is none sound over = ends rest (no_head_in_rest rest n is none) (not_refused rest n true is none sound)
+clean_otherwise rest n true is none sound over = ends rest (no_head_in_rest rest n is none.none) (not_refused rest n true is none sound)
 clean_otherwise rest n false is none sound over = absurd (false≢true over)
 
-pub unfinished_otherwise : (rest : List ℕ) (n : ℕ) (ended : Bool) → n ≡ min (length rest) 8192 → HasNoRequest (take n rest)
+pub unfinished_otherwise : (rest : List ℕ) (n : ℕ) (ended : Bool) → n ≡ min (length rest) 8192 → MayGoOn (take n rest)
     → ((8192 ≤ length rest) ⊎ (IsTrue ended × IsTrue (has_other_byte rest)) → ⊥) → ended ≡ false
     → Requests rest ended [] Unfinished
-unfinished_otherwise rest n false is none sound open_still = waits rest (no_head_in_rest rest n is none) (not_refused rest n false is none sound)
+unfinished_otherwise rest n false is none sound open_still = waits rest (no_head_in_rest rest n is none.none) (not_refused rest n false is none sound)
 unfinished_otherwise rest n true is none sound open_still = absurd (false≢true (sym open_still))
 
 -- ---- all that was fed
 
-with_end : (old : Reading) (left fed : List ℕ) (given : List Request) (end : StreamEnd)
-    → (left ≡ old.rest) × Requests old.rest old.ended [] end → HasGiven fed given old.rest
-    → HasGiven fed given left × Requests fed old.ended given end
-with_end old left fed given end answer before = (
+with_end : (old : Reading) (remaining fed : List ℕ) (given : List Request) (end : StreamEnd)
+    → (remaining ≡ old.rest) × Requests old.rest old.ended [] end → HasGiven fed given old.rest
+    → HasGiven fed given remaining × Requests fed old.ended given end
+with_end old remaining fed given end answer before = (
   subst (HasGiven fed given) (sym answer.0) before,
   subst (λ w. Requests fed old.ended w end) (append-nil given)
       (Requests-after_given fed old.rest old.ended given [] end before answer.1),
 )
 
-pub answers_of_all : (old : Reading) (next : Next) (left fed : List ℕ) (given : List Request)
-    → Answers old next left → HasGiven fed given old.rest → AnswersOfAll fed given old.ended next left
-answers_of_all old (answers.Head request) left fed given answer before =
-    one_more given old.rest request left before answer
-answers_of_all old answers.More left fed given answer before = with_end old left fed given Unfinished answer before
-answers_of_all old answers.Clean left fed given answer before = with_end old left fed given Clean answer before
-answers_of_all old answers.Bad left fed given answer before = with_end old left fed given Bad answer before
+pub answers_of_all : (old : Reading) (next : Next) (remaining fed : List ℕ) (given : List Request)
+    → Answers old next remaining → HasGiven fed given old.rest → AnswersOfAll fed given old.ended next remaining
+answers_of_all old (answers.Head request) remaining fed given answer before =
+    one_more given old.rest request remaining before answer
+answers_of_all old answers.More remaining fed given answer before = with_end old remaining fed given Unfinished answer before
+answers_of_all old answers.Clean remaining fed given answer before = with_end old remaining fed given Clean answer before
+answers_of_all old answers.Bad remaining fed given answer before = with_end old remaining fed given Bad answer before
 
 pub short_while_unfinished : (rest : List ℕ) (ended : Bool) → Requests rest ended [] Unfinished → length rest < 8192
 short_while_unfinished rest _ (waits _ none sound) =
     ⊎_elim (λ short. short) (λ long. absurd (sound (too_long long))) (cases_lt (length rest) 8192)
 
-pub short_after_more : (old : Reading) (next : Next) (left : List ℕ) → Answers old next left → next ≡ answers.More
-    → length left < 8192
-short_after_more old next left answer is =
-    let more : Answers old answers.More left = subst (λ w. Answers old w left) is answer in
+pub short_after_more : (old : Reading) (next : Next) (remaining : List ℕ) → Answers old next remaining → next ≡ answers.More
+    → length remaining < 8192
+short_after_more old next remaining answer is =
+    let more : Answers old answers.More remaining = subst (λ w. Answers old w remaining) is answer in
     subst (λ w. length w < 8192) (sym more.0) (short_while_unfinished old.rest old.ended more.1)
 
 -- ---- the answer is the only one
@@ -111,15 +121,15 @@ no_head_at_end rest _ _ (refused _ _ none why) = none
 no_head_at_end rest _ _ (ends _ none sound) = none
 no_head_at_end rest _ _ (waits _ none sound) = none
 
-pub answer_is : (old : Reading) (next : Next) (left : List ℕ) (end : StreamEnd) → Answers old next left
+pub answer_is : (old : Reading) (next : Next) (remaining : List ℕ) (end : StreamEnd) → Answers old next remaining
     → Requests old.rest old.ended [] end → next ≡ answer_of end
-answer_is old (answers.Head request) left end answer all =
-    absurd (HasNoHead-not_begins old.rest request left (no_head_at_end old.rest old.ended end all) answer)
-answer_is old answers.More left end answer all =
+answer_is old (answers.Head request) remaining end answer all =
+    absurd (HasNoHead-not_begins old.rest request remaining (no_head_at_end old.rest old.ended end all) answer)
+answer_is old answers.More remaining end answer all =
     ap answer_of (Requests_unique old.rest old.ended [] [] Unfinished end answer.1 all).1
-answer_is old answers.Clean left end answer all =
+answer_is old answers.Clean remaining end answer all =
     ap answer_of (Requests_unique old.rest old.ended [] [] Clean end answer.1 all).1
-answer_is old answers.Bad left end answer all =
+answer_is old answers.Bad remaining end answer all =
     ap answer_of (Requests_unique old.rest old.ended [] [] Bad end answer.1 all).1
 
 pub no_end_at_head : (rest : List ℕ) (ended : Bool) (end : StreamEnd) → StandsHead rest → Requests rest ended [] end → ⊥

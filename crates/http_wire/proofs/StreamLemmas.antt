@@ -7,7 +7,8 @@ use Rattle.httparse.specs.Grammar.{print_request}
 use Rattle.httparse.proofs.GrammarLemmas.{request_unique, request_prefix_free, ReadsRequest-append}
 use Rattle.http_wire.specs.declared.request.Request.{Request}
 use Rattle.http_wire.specs.Head.{KeepsRules, request_of}
-use Rattle.http_wire.specs.Requests.{BeginsWith, HasNoHead, BreaksRule, IsRefused, breaks_rule, too_long, cut_off, StreamEnd, Bad, Requests, next, refused, ends, waits, HasGiven, none_yet, one_more, IsHead}
+use Rattle.http_wire.proofs.LineLemmas.{IsHopeless-append, none_if_never}
+use Rattle.http_wire.specs.Requests.{BeginsWith, HasNoHead, BreaksRule, IsHopeless, IsRefused, breaks_rule, hopeless, too_long, cut_off, StreamEnd, Bad, Requests, next, refused, ends, waits, HasGiven, none_yet, one_more, IsHead}
 
 -- a front that is short enough stands in the first part alone
 pub front_within : (xs more front after : List ℕ) → xs ++ more ≡ front ++ after → length front ≤ length xs
@@ -49,6 +50,9 @@ HasNoHead-from_broken rest broken =
     λ head after reads rules.
     broken.3 (subst KeepsRules (sym (request_unique rest broken.0 head broken.1 after broken.2 reads).0) rules)
 
+pub HasNoHead-from_hopeless : (rest : List ℕ) → IsHopeless rest → HasNoHead rest
+HasNoHead-from_hopeless rest never = λ head after reads rules. none_if_never rest never.never head after reads
+
 pub BreaksRule-append : (rest more : List ℕ) → BreaksRule rest → BreaksRule (rest ++ more)
 BreaksRule-append rest more broken =
     (broken.0, broken.1 ++ more, ReadsRequest-append rest broken.0 broken.1 more broken.2, broken.3)
@@ -63,12 +67,14 @@ HasNoHead-append_long rest more long none =
 
 pub IsRefused-append : (rest more : List ℕ) (ended : Bool) → IsRefused rest false → IsRefused (rest ++ more) ended
 IsRefused-append rest more ended (breaks_rule broken) = breaks_rule (BreaksRule-append rest more broken)
+IsRefused-append rest more ended (hopeless never) = hopeless (IsHopeless-append rest more never)
 IsRefused-append rest more ended (too_long long) = too_long (simp length-append (omega arith))
 IsRefused-append rest more ended (cut_off over other) = absurd (false≢true over)
 
 pub HasNoHead-append_refused : (rest more : List ℕ) → HasNoHead rest → IsRefused rest false → HasNoHead (rest ++ more)
 HasNoHead-append_refused rest more none (breaks_rule broken) =
     HasNoHead-from_broken (rest ++ more) (BreaksRule-append rest more broken)
+HasNoHead-append_refused rest more none (hopeless never) = HasNoHead-from_hopeless (rest ++ more) (IsHopeless-append rest more never)
 HasNoHead-append_refused rest more none (too_long long) = HasNoHead-append_long rest more long none
 HasNoHead-append_refused rest more none (cut_off over other) = absurd (false≢true over)
 

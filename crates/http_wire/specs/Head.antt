@@ -1,35 +1,31 @@
--- The request heads that are answered: those of the grammar of `httparse` (RFC 9112, sections 2 to 5)
--- that keep the rules below. The limits are the project's own.
-use Rattle.std.specs.Prelude.{◌≡◌, ℕ, ◌≤◌, false, List, length, map, count_by, codes, if◌then◌else◌}
-use Rattle.std.specs.Str.{bytes_eq, str_to_ascii_lowercase}
-use Rattle.httparse.specs.Grammar.{Field, RequestHead, print_request}
+-- The request heads that are answered: those of the grammar of `httparse` (RFC 9112, sections 2 to
+-- 5) that keep the rules below. Public clauses cite these. The limits are the project's own.
+use Rattle.std.specs.Prelude.{◌≡◌, ℕ, ◌≤◌, Bool, false, ◌||◌, ◌==◌}
+use Rattle.std.specs.Prelude.{List, length, codes, if◌then◌else◌}
+use Rattle.std.specs.List.{list_any}
+use Rattle.std.specs.Str.{bytes_eq}
+use Rattle.httparse.specs.Grammar.{RequestHead, print_request}
+use Rattle.http_wire.specs.declared.request.TheConstants.{MAX_HEAD_BYTES, MAX_FIELDS}
 use Rattle.http_wire.specs.declared.request.Verb.{Verb}
 use Rattle.http_wire.specs.declared.request.Verb.TheVariants as verbs
 use Rattle.http_wire.specs.declared.request.Request.{Request}
+use Rattle.http_wire.specs.Fields.{NameAndValue, fields_of, count_named}
+use Rattle.http_wire.specs.Fields.{announces_body, asks_close}
 
--- the names of the fields, as they are written
-abbrev pub field_names : RequestHead → List (List ℕ)
-field_names head = map (λ (field : Field). field.name) head.fields
+-- The rules on the version 1.minor and the fields of a head.
+pub record KeepsFieldRules (minor : ℕ) (fields : List NameAndValue) : Type 0 where
+  pub few : length fields ≤ MAX_FIELDS
+  -- exactly one Host, and with version 1.0 at most one (RFC 9112, section 3.2)
+  pub one_host : count_named (codes "host") fields ≤ 1
+  pub host : minor ≡ 1 → count_named (codes "host") fields ≡ 1
+  -- no body (RFC 9112, section 6)
+  pub no_coding : count_named (codes "transfer-encoding") fields ≡ 0
+  pub no_length : list_any announces_body fields ≡ false
 
--- how often a name stands among these, compared without case (RFC 9110, section 5.1)
-abbrev pub count_of : List ℕ → List (List ℕ) → ℕ
-count_of name names = count_by (λ written. bytes_eq (str_to_ascii_lowercase written) name) names
-
--- For now a head is answered only where nothing in it speaks of the connection or of a body: it has
--- version 1.1 and none of these three fields.
-pub record IsPlain (head : RequestHead) : Type 0 where
-  pub version : head.minor ≡ 1
-  pub connection : count_of (codes "connection") (field_names head) ≡ 0
-  pub content_length : count_of (codes "content-length") (field_names head) ≡ 0
-  pub transfer_encoding : count_of (codes "transfer-encoding") (field_names head) ≡ 0
-
--- A head has at most 8,192 bytes, with the empty lines before it, at most 64 fields, and exactly one
--- Host field (RFC 9112, section 3.2).
+-- The rules on a head. The empty lines before it count.
 pub record KeepsRules (head : RequestHead) : Type 0 where
-  pub size : length (print_request head) ≤ 8192
-  pub fields : length head.fields ≤ 64
-  pub host : count_of (codes "host") (field_names head) ≡ 1
-  pub plain : IsPlain head
+  pub size : length (print_request head) ≤ MAX_HEAD_BYTES
+  pub rules : KeepsFieldRules head.minor (fields_of head)
 
 -- the verb that a method spells (RFC 9110, section 9.1); methods are compared with their case
 abbrev pub verb_of : List ℕ → Verb
@@ -37,6 +33,15 @@ verb_of method =
     if bytes_eq method (codes "GET") then verbs.Get
     else (if bytes_eq method (codes "HEAD") then verbs.Head else verbs.Other)
 
--- the request of a head; no head that is answered for now asks for a close
+-- the connection closes after the reply: the version is 1.0, or a field asks for it (RFC 9112,
+-- section 9.3)
+abbrev pub closes : ℕ → List NameAndValue → Bool
+closes minor fields = minor == 0 || list_any asks_close fields
+
+-- the request of a head
 abbrev pub request_of : RequestHead → Request
-request_of head = record { verb = verb_of head.method; target = head.target; close = false }
+request_of head = record {
+  verb = verb_of head.method;
+  target = head.target;
+  close = closes head.minor (fields_of head);
+}

@@ -1,3 +1,4 @@
+pub mod Fields
 pub mod Front
 pub mod Head
 pub mod Reading

@@ -1,9 +1,10 @@
--- What a reader of heads answers of the bytes that it was fed.
+-- What a reader of heads answers of the bytes that it was fed. Public clauses cite these.
 use Rattle.std.specs.Prelude.{◌≡◌, ℕ, Bool, List, [], ◌∷◌, ◌++◌}
 use Rattle.http_wire.specs.declared.request.Request.{Request}
 use Rattle.http_wire.specs.declared.heads.Next.{Next}
 use Rattle.http_wire.specs.declared.heads.Next.TheVariants as answers
-use Rattle.http_wire.specs.Requests.{BeginsWith, Requests, HasGiven, StreamEnd, Clean, Bad, Unfinished}
+use Rattle.http_wire.specs.Requests.{BeginsWith, Requests, HasGiven}
+use Rattle.http_wire.specs.Requests.{StreamEnd, Clean, Bad, Unfinished}
 
 -- the bytes fed that stand in no head given, and whether the input ended
 pub record Reading : Type 0 where
@@ -14,12 +15,16 @@ pub record Reading : Type 0 where
 abbrev pub reading : List ℕ → Bool → Reading
 reading rest ended = record { rest = rest; ended = ended }
 
--- what the answer says of the bytes in no head given, and which of them are left
+-- no head is given, and the stream ends so
+abbrev pub EndsIn : StreamEnd → Reading → List ℕ → Type 0
+EndsIn end old remaining = (remaining ≡ old.rest) × Requests old.rest old.ended [] end
+
+-- what the answer says of the bytes in no head given, and which of them remain
 abbrev pub Answers : Reading → Next → List ℕ → Type 0
-Answers old (answers.Head request) left = BeginsWith old.rest request left
-Answers old answers.More left = (left ≡ old.rest) × Requests old.rest old.ended [] Unfinished
-Answers old answers.Clean left = (left ≡ old.rest) × Requests old.rest old.ended [] Clean
-Answers old answers.Bad left = (left ≡ old.rest) × Requests old.rest old.ended [] Bad
+Answers old (answers.Head request) remaining = BeginsWith old.rest request remaining
+Answers old answers.More remaining = EndsIn Unfinished old remaining
+Answers old answers.Clean remaining = EndsIn Clean old remaining
+Answers old answers.Bad remaining = EndsIn Bad old remaining
 
 -- the answer where the stream ends so
 abbrev pub answer_of : StreamEnd → Next
@@ -27,9 +32,15 @@ answer_of Clean = answers.Clean
 answer_of Bad = answers.Bad
 answer_of Unfinished = answers.More
 
+-- these requests and no more are given of what was fed, and the stream ends so
+abbrev pub EndsAllIn : StreamEnd → List ℕ → List Request → Bool → List ℕ → Type 0
+EndsAllIn end fed given ended remaining =
+    HasGiven fed given remaining × Requests fed ended given end
+
 -- what the answer says of all that was fed, of which these requests were given before
 abbrev pub AnswersOfAll : List ℕ → List Request → Bool → Next → List ℕ → Type 0
-AnswersOfAll fed given ended (answers.Head request) left = HasGiven fed (given ++ request ∷ []) left
-AnswersOfAll fed given ended answers.More left = HasGiven fed given left × Requests fed ended given Unfinished
-AnswersOfAll fed given ended answers.Clean left = HasGiven fed given left × Requests fed ended given Clean
-AnswersOfAll fed given ended answers.Bad left = HasGiven fed given left × Requests fed ended given Bad
+AnswersOfAll fed given ended (answers.Head request) remaining =
+    HasGiven fed (given ++ request ∷ []) remaining
+AnswersOfAll fed given ended answers.More remaining = EndsAllIn Unfinished fed given ended remaining
+AnswersOfAll fed given ended answers.Clean remaining = EndsAllIn Clean fed given ended remaining
+AnswersOfAll fed given ended answers.Bad remaining = EndsAllIn Bad fed given ended remaining

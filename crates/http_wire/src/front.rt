@@ -1,25 +1,22 @@
 //! What stands at the front of a stream: a head, one that breaks a rule, or none.
 
-ghost use Rattle.std.specs.Prelude.{◌≡◌, ◌≤◌, ◌↔◌, length, All, IsTrue, IsUtf8, IfOk, OnErr};
-ghost use Rattle.std.specs.Str.{str_to_ascii_lowercase};
+ghost use Rattle.std.specs.Prelude.{◌≡◌, ◌≤◌, length, take, All, IsTrue, IsUtf8, IfOk, OnErr};
+ghost use Rattle.std.specs.List.{list_any};
 ghost use Rattle.httparse.specs.Spans.{IsHeaderWithin, IsWithin, span_bytes};
-ghost use Rattle.http_wire.specs.Head.{count_of, verb_of};
-ghost use Rattle.http_wire.specs.Front.{names_at, request_at, KeepsFieldRules, IsFront};
-ghost use Rattle.http_wire.specs.Requests.{StandsHead};
+ghost use Rattle.http_wire.specs.declared.front.TheConstants.{SPAN_COUNT};
+ghost use Rattle.http_wire.specs.declared.request.TheConstants.{MAX_HEAD_BYTES};
+ghost use Rattle.http_wire.specs.Head.{verb_of};
+ghost use Rattle.http_wire.specs.Front.{request_at, IsFront};
+ghost use Rattle.http_wire.specs.Requests.{StandsHead, is_line_feed, has_line};
 
+use crate::fields::{closes, keeps_field_rules};
 use crate::request::{Request, Verb};
-use plain_data::{Mem, Txt};
 use httparse::Status;
 use httparse::spans::{HeaderSpan, RequestSpans, parse_request};
+use plain_data::{Mem, Txt};
 use std::alloc::Global;
 
-/// The most bytes of a head, with the empty lines before it.
-pub const HEAD_LIMIT: usize = 8_192;
-
-/// The most fields of a head.
-const FIELD_LIMIT: usize = 64;
-
-/// How many fields a head of `HEAD_LIMIT` bytes could have: each takes at least three bytes.
+/// How many fields a head of `MAX_HEAD_BYTES` could have: each takes at least three bytes.
 pub const SPAN_COUNT: usize = 2_731;
 
 /// What the first bytes of a stream are.
@@ -29,7 +26,9 @@ pub enum Front {
     Head(Request, usize),
     /// A head of the grammar that breaks a rule.
     Broken,
-    /// No head of the grammar.
+    /// A line ended, and whatever bytes follow, no head of the grammar stands there.
+    Hopeless,
+    /// No head of the grammar, and either some bytes may make one, or no line ended.
     NoHead,
 }
 
@@ -46,65 +45,63 @@ fn verb_of(method: &[u8]) -> Verb
     }
 }
 
-/// How often a name stands among the fields, compared without case. `name` is in lower case.
-fn count_named(buffer: &[u8], fields: &[HeaderSpan], name: &[u8]) -> usize
-    requires within { All (IsHeaderWithin (length buffer.now)) fields.now }
-    requires lower_case { str_to_ascii_lowercase name.now ≡ name.now }
-    ensures { result ≡ count_of name.now (names_at buffer.now fields.now) }
-{
-    let mut count = 0;
-    for field in fields {
-        if field.name.of(buffer).eq_ignore_ascii_case(name) {
-            count += 1;
-        }
-    }
-    count
-}
-
-/// Whether a head of that version with these fields keeps the rules on both.
-fn keeps_field_rules(buffer: &[u8], version: u8, fields: &[HeaderSpan]) -> bool
-    requires { All (IsHeaderWithin (length buffer.now)) fields.now }
-    ensures { IsTrue result ↔ KeepsFieldRules version (names_at buffer.now fields.now) }
-{
-    fields.len() <= FIELD_LIMIT
-        && count_named(buffer, fields, b"host") == 1
-        && version == 1
-        && count_named(buffer, fields, b"connection") == 0
-        && count_named(buffer, fields, b"content-length") == 0
-        && count_named(buffer, fields, b"transfer-encoding") == 0
-}
-
 /// The request whose parts the spans cover.
-fn request_at(alloc: Global, buffer: &[u8], head: &RequestSpans) -> Mem<Request>
+fn request_at(
+    alloc: Global,
+    buffer: &[u8],
+    head: &RequestSpans,
+    fields: &[HeaderSpan],
+) -> Mem<Request>
     requires method { IsWithin (length buffer.now) head.now.method }
     requires path { IsWithin (length buffer.now) head.now.path }
     requires text { IsUtf8 (span_bytes buffer.now head.now.path) }
-    ensures { IfOk result (λ request. request ≡ request_at buffer.now head.now) }
+    requires fields { All (IsHeaderWithin (length buffer.now)) fields.now }
+    ensures { IfOk result (λ request. request ≡ request_at buffer.now head.now fields.now) }
 {
     let target = str::from_utf8(head.path.of(buffer)).unwrap();
     Ok(Request {
         verb: verb_of(head.method.of(buffer)),
         target: Txt::from_str(alloc, target)?,
-        close: false,
+        close: closes(buffer, head.version, fields),
     })
 }
 
-/// Reads the front of a stream. `NoMemory` comes only where a head that keeps the rules stands there.
+/// Whether some byte is LF.
+fn has_line_feed(bytes: &[u8]) -> bool
+    ensures { result ≡ list_any is_line_feed bytes.now }
+{
+    bytes.iter().any(|b| *b == b'\n')
+}
+
+/// Whether a line ends after the leading bytes CR and LF.
+fn has_line(bytes: &[u8]) -> bool
+    ensures { result ≡ has_line bytes.now }
+{
+    match bytes.iter().position(|b| *b != b'\r' && *b != b'\n') {
+        Some(start) => has_line_feed(&bytes[start..]),
+        None => false,
+    }
+}
+
+/// Reads the front of a stream. `NoMemory` comes only where a head that keeps the rules stands
+/// there.
 pub fn read_front(alloc: Global, bytes: &[u8], spans: &mut [HeaderSpan]) -> Mem<Front>
-    requires short { length bytes.now ≤ 8192 }
-    requires room { length spans.old ≡ 2731 }
+    requires short { length bytes.now ≤ MAX_HEAD_BYTES }
+    requires room { length spans.old ≡ SPAN_COUNT }
     ensures front { IfOk result (IsFront bytes.now) }
     ensures memory { OnErr result (StandsHead bytes.now) }
 {
     let head = match parse_request(bytes, spans) {
         Ok(Status::Complete(head)) => head,
         Ok(Status::Partial) => return Ok(Front::NoHead),
-        // Nor can one stand there if the parser found more fields than it has places for.
+        // It is never that places are wanting: so few bytes hold no more fields than that.
+        Err(_) if has_line(bytes) => return Ok(Front::Hopeless),
         Err(_) => return Ok(Front::NoHead),
     };
-    if !keeps_field_rules(bytes, head.version, &spans[..head.headers]) {
+    let fields = &spans[..head.headers];
+    if !keeps_field_rules(bytes, head.version, fields) {
         return Ok(Front::Broken);
     }
-    let request = request_at(alloc, bytes, &head)?;
+    let request = request_at(alloc, bytes, &head, fields)?;
     Ok(Front::Head(request, head.len))
 }

@@ -1,23 +1,29 @@
 //! A stream of bytes, cut into the heads of requests.
 
-ghost use Rattle.std.specs.Prelude.{◌≡◌, ℕ, ◌+◌, ◌-◌, ◌<◌, ◌≤◌, ◌↔◌, ◌⊎◌, List, [], ◌++◌, length, take, drop, min, true, false, vec_len, vec_capacity, IsTrue, IfOk, OnErr, OnOk};
+ghost use Rattle.std.specs.Prelude.{◌≡◌, ℕ, ◌+◌, ◌-◌, ◌<◌, ◌≤◌, ◌↔◌, ◌⊎◌, true, false, IsTrue};
+ghost use Rattle.std.specs.Prelude.{List, [], ◌++◌, length, take, drop, min};
+ghost use Rattle.std.specs.Prelude.{vec_len, vec_capacity, IfOk, OnErr, OnOk};
+ghost use Rattle.http_wire.specs.declared.front.TheConstants.{SPAN_COUNT};
+ghost use Rattle.http_wire.specs.declared.heads.TheConstants.{MAX_REST_BYTES};
 ghost use Rattle.http_wire.specs.declared.request.Request.{Request};
+ghost use Rattle.http_wire.specs.declared.request.TheConstants.{MAX_HEAD_BYTES};
 ghost use Rattle.http_wire.specs.Reading.{Answers, AnswersOfAll, answer_of, reading};
-ghost use Rattle.http_wire.specs.Requests.{HasGiven, Requests, StandsHead, StreamEnd, has_other_byte};
+ghost use Rattle.http_wire.specs.Requests.{HasGiven, Requests, StandsHead, StreamEnd};
+ghost use Rattle.http_wire.specs.Requests.{has_other_byte};
 
-use crate::front::{Front, HEAD_LIMIT, SPAN_COUNT, read_front};
-use crate::request::Request;
-use plain_data::Mem;
+use crate::front::{Front, SPAN_COUNT, read_front};
+use crate::request::{MAX_HEAD_BYTES, Request};
 use httparse::spans::{EMPTY_HEADER_SPAN, HeaderSpan};
+use plain_data::Mem;
 use std::alloc::Global;
 use std::marker::Model;
 
-/// The most bytes that stand in no head given.
-const ROOM: usize = 16_384;
+/// The most bytes that a reader holds: those fed that stand in no head given.
+pub const MAX_REST_BYTES: usize = 16_384;
 
-/// The bytes that are allocated: twice as many, so that the rest moves to the front at most once for
-/// each `ROOM` bytes that were given.
-const BUFFER: usize = 32_768;
+/// The bytes that are allocated: twice as many, so that the rest moves to the front at most once
+/// for each `MAX_REST_BYTES` that were given.
+const BUFFER_BYTES: usize = 32_768;
 
 /// What stands next in a stream.
 #[derive(Debug, Drop)]
@@ -32,8 +38,8 @@ pub enum Next {
     Bad,
 }
 
-/// A reader of the heads in a stream of bytes. It is fed pieces of any size, and gives one head after
-/// another. It takes all its memory at once.
+/// A reader of the heads in a stream of bytes. It is fed pieces of any size, and gives one head
+/// after another. It takes all its memory at once.
 #[derive(Debug, Drop)]
 pub struct Heads {
     bytes: Vec<u8>,
@@ -45,13 +51,18 @@ pub struct Heads {
 // Contracts see the bytes fed that stand in no head given, and whether the input ended.
 impl Model for Heads {
     ghost use Rattle.std.specs.Prelude.{◌≡◌, ◌+◌, ◌≤◌, drop, vec_len, vec_capacity};
+    ghost use Rattle.http_wire.specs.declared.front.TheConstants.{SPAN_COUNT};
+    ghost use Rattle.http_wire.specs.declared.heads.TheConstants.{MAX_REST_BYTES, BUFFER_BYTES};
     ghost use Rattle.http_wire.specs.Reading.{Reading};
 
     ghost Value = { Reading };
 
     ghost view = { λ it. record { rest = drop it.start it.bytes.items; ended = it.ended } };
 
-    ghost invariant = { λ it. (it.start ≤ vec_len it.bytes) × (vec_len it.bytes ≤ it.start + 16384) × (32768 ≤ vec_capacity it.bytes) × (vec_len it.spans ≡ 2731) };
+    ghost invariant = { λ it. (it.start ≤ vec_len it.bytes)
+        × (vec_len it.bytes ≤ it.start + MAX_REST_BYTES)
+        × (BUFFER_BYTES ≤ vec_capacity it.bytes)
+        × (vec_len it.spans ≡ SPAN_COUNT) };
 }
 
 /// Drops the first bytes, and moves the rest to the front.
@@ -74,9 +85,10 @@ fn has_other_byte(bytes: &[u8]) -> bool
 
 /// Whether a rest that begins with no head is refused: it is too long, or the input ended in it.
 fn is_over(rest: &[u8], ended: bool) -> bool
-    ensures { IsTrue result ↔ ((8192 ≤ length rest.now) ⊎ (IsTrue ended × IsTrue (has_other_byte rest.now))) }
+    ensures { IsTrue result ↔ ((MAX_HEAD_BYTES ≤ length rest.now)
+        ⊎ (IsTrue ended × IsTrue (has_other_byte rest.now))) }
 {
-    rest.len() >= HEAD_LIMIT || (ended && has_other_byte(rest))
+    rest.len() >= MAX_HEAD_BYTES || (ended && has_other_byte(rest))
 }
 
 /// What stands next in a rest, and how many of its bytes are given with it.
@@ -86,15 +98,17 @@ fn answer_at(
     ended: bool,
     spans: &mut [HeaderSpan],
 ) -> Mem<(Next, usize)>
-    requires { length spans.old ≡ 2731 }
+    requires { length spans.old ≡ SPAN_COUNT }
     ensures within { IfOk result (λ answer. answer.1 ≤ length rest.now) }
-    ensures answer { IfOk result (λ answer. Answers (reading rest.now ended) answer.0 (drop answer.1 rest.now)) }
+    ensures answer { IfOk result
+        (λ answer. Answers (reading rest.now ended) answer.0 (drop answer.1 rest.now)) }
     ensures memory { OnErr result (StandsHead rest.now) }
 {
-    let front = &rest[..rest.len().min(HEAD_LIMIT)];
+    let front = &rest[..rest.len().min(MAX_HEAD_BYTES)];
     match read_front(alloc, front, spans)? {
         Front::Head(request, len) => Ok((Next::Head(request), len)),
         Front::Broken => Ok((Next::Bad, 0)),
+        Front::Hopeless => Ok((Next::Bad, 0)),
         Front::NoHead if is_over(rest, ended) => Ok((Next::Bad, 0)),
         Front::NoHead if ended => Ok((Next::Clean, 0)),
         Front::NoHead => Ok((Next::More, 0)),
@@ -102,15 +116,15 @@ fn answer_at(
 }
 
 impl Heads {
-    /// A reader that was fed nothing. It takes its room at once: a buffer, and the places of as many
-    /// fields as the longest head can have.
+    /// A reader that was fed nothing. It takes its room at once: a buffer, and the places of as
+    /// many fields as the longest head can have.
     pub fn new(alloc: Global) -> Mem<Heads>
         ensures rest { IfOk result (λ heads. heads.rest ≡ []) }
         ensures ended { IfOk result (λ heads. heads.ended ≡ false) }
         ensures given { IfOk result (λ heads. HasGiven [] [] heads.rest) }
     {
         Ok(Heads {
-            bytes: Vec::with_capacity(alloc, BUFFER)?,
+            bytes: Vec::with_capacity(alloc, BUFFER_BYTES)?,
             start: 0,
             ended: false,
             spans: vec![in alloc; EMPTY_HEADER_SPAN; SPAN_COUNT]?,
@@ -118,20 +132,21 @@ impl Heads {
     }
 
     /// Takes bytes of the stream, and answers how many first bytes of the piece it took: as many as
-    /// there is room for, where 16,384 bytes that stand in no head given fill it. It takes no memory.
+    /// there is room for, where [`MAX_REST_BYTES`] that stand in no head given fill it. It takes no
+    /// memory.
     pub fn feed(&mut self, piece: &[u8]) -> usize
         requires { self.old.ended ≡ false }
-        ensures taken { result ≡ min (length piece.now) (16384 - length self.old.rest) }
+        ensures taken { result ≡ min (length piece.now) (MAX_REST_BYTES - length self.old.rest) }
         ensures rest { self.new.rest ≡ self.old.rest ++ take result piece.now }
         ensures ended { self.new.ended ≡ self.old.ended }
-        ensures room { length self.new.rest ≤ 16384 }
+        ensures room { length self.new.rest ≤ MAX_REST_BYTES }
 
         // Of all that was fed, the requests given stay those that were given.
         ensures given { (fed : List ℕ) (given : List Request) → HasGiven fed given self.old.rest
             → HasGiven (fed ++ take result piece.now) given self.new.rest }
     {
         let held = self.bytes.len() - self.start;
-        let taken = piece.len().min(ROOM - held);
+        let taken = piece.len().min(MAX_REST_BYTES - held);
         if self.bytes.capacity() - self.bytes.len() < taken {
             move_to_front(&mut self.bytes, self.start);
             self.start = 0;
@@ -148,9 +163,11 @@ impl Heads {
         self.ended = true;
     }
 
-    /// What stands next in the stream (RFC 9112, section 2.2). A head is given once, with its bytes: at
-    /// most 8,192, the empty lines before it among them. After [`Next::Bad`] each further answer is
-    /// that. `NoMemory` comes only where a head is next, and the reader is then as it was.
+    /// What stands next in the stream (RFC 9112, section 2.2). A head is given once, with its
+    /// bytes: at most [`MAX_HEAD_BYTES`], the empty lines before it among them. `Bad` comes where
+    /// a head breaks a rule, where a line ended and no bytes can make what stands there a head, at
+    /// as many bytes as a head may have, and where the input ended in a head; each further answer
+    /// is then `Bad`. `NoMemory` comes only where a head is next, and the reader is then as it was.
     pub fn next(&mut self, alloc: Global) -> Mem<Next>
         ensures answer { IfOk result (λ next. Answers self.old next self.new.rest) }
 
@@ -162,7 +179,7 @@ impl Heads {
         ensures stream { (fed : List ℕ) (given : List Request) → HasGiven fed given self.old.rest
             → IfOk result (λ next. AnswersOfAll fed given self.old.ended next self.new.rest) }
         ensures ended { self.new.ended ≡ self.old.ended }
-        ensures room { result ≡ Ok Next.More → length self.new.rest < 8192 }
+        ensures room { result ≡ Ok Next.More → length self.new.rest < MAX_HEAD_BYTES }
         ensures unchanged { OnErr result (self.new ≡ self.old) }
         ensures memory { OnErr result (StandsHead self.old.rest) }
     {

@@ -22,12 +22,12 @@ pub fn bad_streams_stay_bad()
         → Requests stream false requests Bad → Requests (stream ++ more) ended requests Bad }
 {}
 
-/// The requests are the same however the stream is cut. What was given stays given when more is fed, and
-/// with the requests in the rest it makes the requests in the whole stream.
+/// The requests are the same however the stream is cut. What was given stays given when more is
+/// fed, and with the requests in the rest it makes the requests in the whole stream.
 pub fn requests_do_not_depend_on_the_cut()
     ensures more { (fed more rest : List ℕ) (given : List Request)
         → HasGiven fed given rest → HasGiven (fed ++ more) given (rest ++ more) }
-    ensures whole { (fed rest : List ℕ) (ended : Bool) (given requests : List Request) (end : StreamEnd)
-        → HasGiven fed given rest → Requests rest ended requests end
+    ensures whole { (fed rest : List ℕ) (ended : Bool) (given requests : List Request)
+        (end : StreamEnd) → HasGiven fed given rest → Requests rest ended requests end
         → Requests fed ended (given ++ requests) end }
 {}

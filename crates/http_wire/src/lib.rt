@@ -1,24 +1,25 @@
 //! Requests and replies on the wire: HTTP/1.1 (RFC 9110, RFC 9112) in a narrow profile.
 //!
-//! [`Heads`] cuts a stream of bytes, however it comes, into the heads of requests. [`reply_head`] and
-//! [`bad_reply`] write what goes before a page or in its place. Four functions without a body state the
-//! laws of the definitions in `specs/`: no head begins another, a stream has one list of requests, it is
-//! the same however the stream is cut, and a stream that is refused stays so.
+//! [`Heads`] cuts a stream of bytes, however it comes, into the heads of requests. [`reply_head`]
+//! and [`bad_reply`] write what goes before a page or in its place. Four functions without a body
+//! state the laws of the definitions in `specs/`: no head begins another, a stream has one list of
+//! requests, it is the same however the stream is cut, and a stream that is refused stays so.
 #![tactic(auto)]
 
+mod fields;
 mod front;
 mod heads;
 mod laws;
 mod reply;
 mod request;
 
-pub use heads::{Heads, Next};
+pub use heads::{Heads, MAX_REST_BYTES, Next};
 pub use laws::{
     bad_streams_stay_bad, heads_are_prefix_free, requests_are_unique,
     requests_do_not_depend_on_the_cut,
 };
 pub use reply::{Code, bad_reply, reply_head};
-pub use request::{Request, Verb};
+pub use request::{MAX_FIELDS, MAX_HEAD_BYTES, Request, Verb};
 
 #[cfg(test)]
 mod tests;

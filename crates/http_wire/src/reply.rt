@@ -1,7 +1,8 @@
 //! The heads of replies.
 
 ghost use Rattle.std.specs.Prelude.{◌≡◌, IfOk};
-ghost use Rattle.http_wire.specs.Reply.{status_of, allow_line, close_line, reply_head_of, bad_reply_bytes};
+ghost use Rattle.http_wire.specs.Reply.{status_of, allow_line, close_line, reply_head_of};
+ghost use Rattle.http_wire.specs.Reply.{bad_reply_bytes};
 
 use plain_data::Mem;
 use std::alloc::Global;
@@ -51,9 +52,9 @@ fn close_line(last: bool) -> &'static str
     if last { "Connection: close\r\n" } else { "" }
 }
 
-/// The head of a reply (RFC 9112, section 4), the empty line after it included. `length` is that of the
-/// page in bytes, `edition` the number of the edition that it was made of, and `last` says whether the
-/// connection closes after the reply.
+/// The head of a reply (RFC 9112, section 4), the empty line after it included. `length` is that of
+/// the page in bytes, `edition` the number of the edition that it was made of, and `last` says
+/// whether the connection closes after the reply.
 pub fn reply_head(alloc: Global, code: Code, length: u64, edition: u64, last: bool) -> Mem<Vec<u8>>
     ensures { IfOk result (λ head. head.items ≡ reply_head_of code length edition last) }
 {
@@ -75,7 +76,10 @@ pub fn reply_head(alloc: Global, code: Code, length: u64, edition: u64, last: bo
 pub fn bad_reply(alloc: Global) -> Mem<Vec<u8>>
     ensures { IfOk result (λ reply. reply.items ≡ bad_reply_bytes) }
 {
-    let reply =
-        b"HTTP/1.1 400 Bad Request\r\nContent-Type: text/plain; charset=utf-8\r\nContent-Length: 12\r\nConnection: close\r\n\r\nbad request\n";
-    Ok(Vec::from_slice(alloc, reply)?)
+    let reply = "HTTP/1.1 400 Bad Request\r\n\
+        Content-Type: text/plain; charset=utf-8\r\n\
+        Content-Length: 12\r\n\
+        Connection: close\r\n\r\n\
+        bad request\n";
+    Ok(Vec::from_slice(alloc, reply.as_bytes())?)
 }

@@ -1,7 +1,7 @@
 use Rattle.std.proofs.Common.{sym, refl, ◌∙◌, arith, length-take}
 use Rattle.std.proofs.lemmas.Bool.{false≢true}
 use Rattle.http_wire.proofs.FrontLemmas.{on_err}
-use Rattle.http_wire.proofs.ReadingLemmas.{begins_from_front, stands_from_front, bad_from_front, bad_when_over, clean_otherwise, unfinished_otherwise}
+use Rattle.http_wire.proofs.ReadingLemmas.{begins_from_front, stands_from_front, bad_from_front, bad_if_hopeless, bad_when_over, clean_otherwise, unfinished_otherwise}
 use Rattle.http_wire.proofs.heads.answer_at.Goals as goal
 
 pub returns-in_err-request-clause-memory : goal.returns-in_err-request-clause-memory
@@ -20,6 +20,10 @@ returns-in-Head c =
 pub returns-in-Broken-clause-answer : goal.returns-in-Broken-clause-answer
 returns-in-Broken-clause-answer c =
     (refl, bad_from_front _ c.min.result _ (rw c.in-Broken.is at c.in_ok-request.ensures.front))
+
+pub returns-in-Hopeless-clause-answer : goal.returns-in-Hopeless-clause-answer
+returns-in-Hopeless-clause-answer c =
+    (refl, bad_if_hopeless _ c.min.result _ (rw c.in-Hopeless.is at c.in_ok-request.ensures.front))
 
 pub returns-in-NoHead-clause-answer : goal.returns-in-NoHead-clause-answer
 returns-in-NoHead-clause-answer c =
