@@ -1,0 +1,165 @@
+-- What a request asks for, by the table of routes. Public clauses cite these. The routes are the
+-- project's own.
+use Rattle.std.specs.Prelude.{ℕ, ◌-◌, ◌==◌, Bool, ◌&&◌, nat_eq, nat_lt, nat_le, if◌then◌else◌}
+use Rattle.std.specs.Prelude.{List, [], ◌∷◌, length, take, drop, codes, Option, Some, None}
+use Rattle.std.specs.Char.{is_ascii_digit}
+use Rattle.std.specs.List.{before_first, after_first, ends_with, list_all, list_any, starts_with}
+use Rattle.std.specs.Str.{bytes_eq, is_utf8}
+use Rattle.std.specs.Str.Lossy.{utf8_lossy}
+use Rattle.std.specs.Str.Parse.{digits_value}
+use Rattle.form_urlencoded.specs.Form.{decode, raw_pairs}
+use Rattle.go_chars.specs.Identifiers.{is_name}
+use Rattle.http_wire.specs.declared.request.Request.{Request}
+use Rattle.http_wire.specs.declared.request.Verb.{Verb}
+use Rattle.http_wire.specs.declared.request.Verb.TheVariants as verbs
+use Rattle.percent_encoding.specs.Percent.{percent_decode}
+use Rattle.routes.specs.declared.query.TheConstants.{MAX_PAGE_DIGITS}
+use Rattle.routes.specs.declared.router.Page.{Page}
+use Rattle.routes.specs.declared.router.Page.TheVariants as pages
+use Rattle.routes.specs.declared.target.Target.{Target}
+use Rattle.routes.specs.declared.target.Target.TheVariants as targets
+
+-- ---- the parts of a target (RFC 9112, section 3.2)
+
+-- b'/'
+abbrev pub is_slash : ℕ → Bool
+is_slash b = b == 47
+
+-- b'?'
+abbrev pub is_question_mark : ℕ → Bool
+is_question_mark b = b == 63
+
+-- what follows a leading slash
+abbrev pub after_slash : List ℕ → Option (List ℕ)
+after_slash [] = None
+after_slash (b ∷ rest) = if is_slash b then Some rest else None
+
+-- what follows the leading slash of a target; in absolute form that is the slash after the
+-- authority, and nothing follows where there is none
+abbrev pub path_and_query : List ℕ → Option (List ℕ)
+path_and_query target =
+    if starts_with nat_eq target (codes "http://")
+    then Some (after_first is_slash (drop 7 target)) else after_slash target
+
+-- the path, which ends before the first `?`, and the query after that (RFC 3986, section 3.4)
+abbrev pub path_of : List ℕ → List ℕ
+path_of rest = before_first is_question_mark rest
+
+abbrev pub query_of : List ℕ → List ℕ
+query_of rest = after_first is_question_mark rest
+
+-- ---- the table of routes, for a path without its leading slash
+
+-- the text is one of these
+abbrev pub is_among : List (List ℕ) → List ℕ → Bool
+is_among texts text = list_any (λ one. bytes_eq one text) texts
+
+-- the path goes on after this
+abbrev pub goes_on_after : List ℕ → List ℕ → Bool
+goes_on_after front path = starts_with nat_eq path front && nat_lt (length front) (length path)
+
+abbrev pub page_at : List ℕ → Option Page
+page_at path =
+    if is_among (codes "" ∷ codes "pkg" ∷ codes "pkg/" ∷ []) path then Some pages.List
+    else (if goes_on_after (codes "pkg/") path then Some pages.Package
+    else (if goes_on_after (codes "src/") path then Some pages.Source
+    else (if bytes_eq (codes "search") path then Some pages.Search
+    else (if bytes_eq (codes "faults") path then Some pages.Faults else None))))
+
+-- what follows `pkg/` or `src/`
+abbrev pub value_of : List ℕ → List ℕ
+value_of path = drop 4 path
+
+-- ---- the values of paths
+
+-- the text that a value stands for (RFC 3986, section 2.1), if it is UTF-8; a bad escape stays as
+-- it is written
+abbrev pub decoded : List ℕ → Option (List ℕ)
+decoded value = if is_utf8 (percent_decode value) then Some (percent_decode value) else None
+
+-- the text without one final slash
+abbrev pub without_slash : List ℕ → List ℕ
+without_slash text =
+    if ends_with nat_eq text (codes "/") then take (length text - 1) text else text
+
+abbrev pub package_target : List ℕ → Target
+package_target value = elim (decoded value) [
+  | Some path ↦ targets.PackagePage (without_slash path)
+  | None ↦ targets.BadTarget
+]
+
+abbrev pub source_target : List ℕ → Target
+source_target value = elim (decoded value) [
+  | Some path ↦ targets.SourcePage path
+  | None ↦ targets.BadTarget
+]
+
+-- ---- the query of a search (URL Standard, section 5.1)
+
+-- the text of a name or a value, in which each sequence that isn't UTF-8 is a U+FFFD
+abbrev pub form_text : List ℕ → List ℕ
+form_text bytes = utf8_lossy (decode bytes)
+
+-- the value of the first of these pairs that has the name
+abbrev pub first_value_of : List ℕ → List (List ℕ × List ℕ) → Option (List ℕ)
+first_value_of name [] = None
+first_value_of name ((key, value) ∷ pairs) =
+    if bytes_eq (form_text key) name then Some (form_text value) else first_value_of name pairs
+
+abbrev pub first_value : List ℕ → List ℕ → Option (List ℕ)
+first_value name query = first_value_of name (raw_pairs query)
+
+-- one to six digits, and at least 1
+abbrev pub is_page_number : List ℕ → Bool
+is_page_number text =
+    nat_lt 0 (length text) && nat_le (length text) MAX_PAGE_DIGITS && list_all is_ascii_digit text
+    && nat_lt 0 (digits_value 10 text)
+
+abbrev pub page_number : List ℕ → Option ℕ
+page_number text = if is_page_number text then Some (digits_value 10 text) else None
+
+-- the page that the value of `p` asks for: the first where there is none
+abbrev pub page_asked : Option (List ℕ) → Option ℕ
+page_asked None = Some 1
+page_asked (Some text) = page_number text
+
+abbrev pub search_at : List ℕ → Option ℕ → Target
+search_at name None = targets.BadTarget
+search_at name (Some page) = targets.Search name page
+
+-- a search by the values of `q` and `p`: for an identifier that is no keyword
+abbrev pub search_by : Option (List ℕ) → Option (List ℕ) → Target
+search_by None page = targets.BadTarget
+search_by (Some name) page =
+    if is_name name then search_at name (page_asked page) else targets.BadTarget
+
+abbrev pub search_target : List ℕ → Target
+search_target query = search_by (first_value (codes "q") query) (first_value (codes "p") query)
+
+-- ---- a request
+
+-- what is asked for at a page, by the path and the query
+abbrev pub at_page : Option Page → List ℕ → List ℕ → Target
+at_page None path query = targets.NotFound
+at_page (Some pages.List) path query = targets.List
+at_page (Some pages.Package) path query = package_target (value_of path)
+at_page (Some pages.Source) path query = source_target (value_of path)
+at_page (Some pages.Search) path query = search_target query
+at_page (Some pages.Faults) path query = targets.Faults
+
+abbrev pub by_path : List ℕ → List ℕ → Target
+by_path path query = at_page (page_at path) path query
+
+abbrev pub by_rest : Option (List ℕ) → Target
+by_rest None = targets.BadTarget
+by_rest (Some rest) = by_path (path_of rest) (query_of rest)
+
+-- a method other than GET and HEAD is judged before the target
+abbrev pub by_verb : Verb → List ℕ → Target
+by_verb verbs.Get target = by_rest (path_and_query target)
+by_verb verbs.Head target = by_rest (path_and_query target)
+by_verb verbs.Other target = targets.BadVerb
+
+-- what a request asks for
+abbrev pub target_of : Request → Target
+target_of request = by_verb request.verb request.target
