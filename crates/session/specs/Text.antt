@@ -36,6 +36,12 @@ answerable_from number (request ∷ requests) =
 abbrev pub answerable : List Request → List Request
 answerable requests = answerable_from 1 requests
 
+-- the requests up to and with the first that closes
+abbrev pub up_to_close : List Request → List Request
+up_to_close [] = []
+up_to_close (request ∷ requests) =
+    request ∷ (if request.close then [] else up_to_close requests)
+
 -- the edition with this number in a history; numbers count from 1
 abbrev pub edition_at : {E : Type 0} → List E → ℕ → Option E
 edition_at history zero = None

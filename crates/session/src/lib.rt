@@ -12,7 +12,7 @@ mod responder;
 mod serve;
 mod session_end;
 
-pub use laws::each_stream_has_requests;
+pub use laws::{each_stream_has_requests, the_first_thousand_up_to_a_close_are_answered};
 pub use responder::Responder;
 pub use serve::serve_link;
 pub use session_end::SessionEnd;

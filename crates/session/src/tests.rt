@@ -193,6 +193,26 @@ fn a_failed_write_leaves_a_beginning_of_the_text(rt: HostRuntime) -> Result<(), 
 }
 
 #[test]
+fn a_request_that_closes_is_answered_last(rt: HostRuntime) -> Result<(), Fail> {
+    let alloc = rt.alloc();
+    let streams: [&[u8]; 3] = [
+        b"GET /a HTTP/1.1\r\nHost: a\r\nConnection: x, close\r\n\r\nGET /b HTTP/1.1\r\n\r\n",
+        b"GET /a HTTP/1.0\r\n\r\nGET /b HTTP/1.0\r\n\r\n",
+        b"GET /a HTTP/1.0\n\n",
+    ];
+    for (place, stream) in streams.iter().enumerate() {
+        let (end, held) = serve_stream(alloc, stream, &[3], 0, 9, 0)?;
+        assert_eq!(rt; end, SessionEnd::Closed, "row {place}");
+        assert_eq!(rt;
+            held.as_slice(),
+            b"1eG/a Connection: close\n".as_slice(),
+            "row {place}"
+        );
+    }
+    Ok(())
+}
+
+#[test]
 fn the_thousandth_reply_is_the_last(rt: HostRuntime) -> Result<(), Fail> {
     let alloc = rt.alloc();
     let mut stream = Vec::new(alloc);
