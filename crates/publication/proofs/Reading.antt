@@ -168,19 +168,20 @@ module _ {E : Type 0} where
         entered = subst (All (λ number. (1 ≤ number) × (number ≤ length seen.log))) (sym same) r.entered;
       }) step
 
--- how a step went, by what it answered
-pub either_way : {T X : Type 0} (r : Result T X) (N S : Type 0) → OnOk r S → OnErr r (N ⊎ S) → N ⊎ S
-either_way (Ok x) N S ok err = inr ok
-either_way (Err x) N S ok err = err
+-- what holds of an answer, by what it is
+pub ok_of : {T X : Type 0} (r : Result T X) (x : T) (P : Type 0) → r ≡ Ok x → OnOk r P → P
+ok_of {T} {X} r x P is h = subst (λ (r : Result T X). OnOk r P) is h
 
-pub either_seen : {T X : Type 0} (r : Result T X) (N S L : Type 0) → OnOk r (S × L) → OnErr r (N ⊎ S) → N ⊎ S
-either_seen (Ok x) N S L ok err = inr ok.0
-either_seen (Err x) N S L ok err = err
+pub if_of : {T X : Type 0} (r : Result T X) (x : T) (P : T → Type 0) → r ≡ Ok x → IfOk r P → P x
+if_of {T} {X} r x P is h = subst (λ (r : Result T X). IfOk r P) is h
 
-pub on_both : {T X : Type 0} (r : Result T X) (S : Type 0) (P : T → Type 0) (Q : Type 0) → ((x : T) → S → P x → Q) → OnOk r S → IfOk r P → OnOk r Q
-on_both (Ok x) S P Q f ok p = f x ok p
-on_both (Err x) S P Q f ok p = tt
+pub err_of : {T X : Type 0} (r : Result T X) (x : X) (P : Type 0) → r ≡ Err x → OnErr r P → P
+err_of {T} {X} r x P is h = subst (λ (r : Result T X). OnErr r P) is h
 
-pub if_ok : {T X : Type 0} (r : Result T X) (S : Type 0) (P Q : T → Type 0) → ((x : T) → S → P x → Q x) → OnOk r S → IfOk r P → IfOk r Q
-if_ok (Ok x) S P Q f ok p = f x ok p
-if_ok (Err x) S P Q f ok p = tt
+pub on_ok_always : {T X : Type 0} (r : Result T X) (P : Type 0) → P → OnOk r P
+on_ok_always (Ok x) P p = p
+on_ok_always (Err x) P p = tt
+
+pub on_err_always : {T X : Type 0} (r : Result T X) (P : Type 0) → P → OnErr r P
+on_err_always (Ok x) P p = tt
+on_err_always (Err x) P p = p
