@@ -4,8 +4,8 @@ ghost use Rattle.std.specs.Prelude.{◌≡◌, [], ◌++◌, decimal, IsUtf8, On
 ghost use Rattle.text_out.specs.Escape.{escaped};
 
 use crate::escape::append_escaped;
-use plain_data::{Mem, NoMemory};
 use itoa::Buffer;
+use plain_data::{Mem, NoMemory};
 use std::alloc::Global;
 use std::marker::Model;
 

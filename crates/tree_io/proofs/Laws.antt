@@ -9,7 +9,7 @@ use Prim.Native.Nat.{zero, suc}
 use Rattle.plain_data.specs.Causes.{RoseBy}
 use Rattle.tree_io.specs.Path.{Belongs, IsRising, paths_of}
 use Rattle.tree_io.specs.Sources.{Contents, Sources, IsFrom, bytes_at, entry_of, is_unread, unread_count}
-use Rattle.tree_io.specs.Scans.{IsKnown, IsListed, under_way}
+use Rattle.tree_io.specs.Scans.{IsListed, under_way}
 use Rattle.tree_io.specs.Entries.{IsReadSoFar, IsScanned}
 use Rattle.tree_io.specs.declared.tree.TheConstants.{MAX_FILE_BYTES}
 use Rattle.tree_io.specs.declared.tree.Entry.{Entry}

@@ -1,6 +1,6 @@
 -- At most one byte too many is read, which tells a large file from others.
-use Rattle.std.proofs.Common.{◌≡◌, ℕ, ◌+◌, ◌<◌, ◌≤◌, cond, Bool, true, false, List, [], ◌++◌, length, take, Option, Some, None, Result, Ok, Err, IfErr, IfOk, IfSome, IsErrAnd, OnOk, inl, inr, refl, sym, subst, arith}
-use Rattle.std.specs.Prelude.{option_map, nat_lt}
+use Rattle.std.proofs.Common.{◌≡◌, ℕ, ◌+◌, ◌<◌, true, List, [], ◌++◌, length, take, Option, Some, None, Result, Ok, Err, IfErr, IfOk, IfSome, IsErrAnd, OnOk, inl, inr, refl, sym, subst, arith}
+use Rattle.std.specs.Prelude.{option_map}
 use Rattle.std.proofs.lemmas.Bool.{cases_lt, ltb_from_iff}
 use Rattle.std.proofs.lemmas.List.{length-take, take_all}
 use Rattle.plain_data.specs.Causes.{IsFailOf}
