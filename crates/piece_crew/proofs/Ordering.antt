@@ -1,5 +1,5 @@
 -- The outputs of all workers, each in the place with its job's number.
-use Rattle.std.proofs.Common.{◌≡◌, ◌≢◌, ℕ, ◌+◌, ◌<◌, ◌≤◌, List, [], ◌∷◌, map, length, get_or, replicate, All, refl, sym, ap, ◌∙◌, subst, arith, length-set, if◌then◌else◌, ◌==◌}
+use Rattle.std.proofs.Common.{◌≡◌, ◌≢◌, ℕ, ◌+◌, ◌<◌, ◌≤◌, List, [], ◌∷◌, ◌++◌, map, length, get_or, replicate, All, refl, sym, ap, ◌∙◌, subst, arith, length-set, if◌then◌else◌, ◌==◌}
 use Rattle.std.specs.Prelude.{MatchOption, Option, Some, None, IsSome, is_some, Result, Ok, IfOk}
 use Rattle.std.specs.List.{fold}
 use Rattle.std.proofs.lemmas.Bool.Decides.{nat_tests}
@@ -141,6 +141,9 @@ module _ {O : Type 0} where
       let word = worked.word in
       All-map (λ (seat : Seat). seat.word ≡ word) (λ bundle. bundle.seat) bundles
       (All-weaker (IsWorkedOff gives word) (λ bundle. bundle.seat.word ≡ word) (λ bundle done. done.at_word) bundles worked.each)
+
+  pub seats_are : (bundles : List (Bundle O)) (empty taken all : List Seat) → all ≡ taken → taken ≡ empty ++ map (λ bundle. bundle.seat) bundles → empty ≡ [] → all ≡ map (λ bundle. bundle.seat) bundles
+  seats_are bundles empty taken all e t none = e ∙ t ∙ ap (λ before. before ++ map (λ bundle. bundle.seat) bundles) none
 
   -- the seats that the workers bring back are all those at their word
   pub seats_of : (gives : ℕ → O → Type 0) (count : ℕ) (bundles : List (Bundle O)) (seats : List Seat) → AreWorkedOff gives count bundles → seats ≡ map (λ bundle. bundle.seat) bundles → AreAllSeats seats
