@@ -29,7 +29,8 @@ pub(crate) fn joined<E>(mine: &Knowledge<E>, other: &Knowledge<E>) -> Knowledge<
     requires same { other.now.origin.book ≡ mine.now.origin.book }
     ensures told { IsTold result }
     ensures origin { result.origin ≡ mine.now.origin }
-    ensures one_of { (result.told.log ≡ mine.now.told.log) ⊎ (result.told.log ≡ other.now.told.log) }
+    ensures one_of { (result.told.log ≡ mine.now.told.log)
+        ⊎ (result.told.log ≡ other.now.told.log) }
     ensures mine { StartsWith result.told.log mine.now.told.log }
     ensures other { StartsWith result.told.log other.now.told.log }
     ensures kept { IsPrefix mine.now.all.log result.all.log }

@@ -42,7 +42,8 @@ fn open_writer<E: Drop, R: Wait>(
     ensures shown { IfOk result (λ writer. shown writer.desk.shown.value ≡ shown first) }
     ensures clean { IfOk result (λ writer. drop writer.behind writer.log.items ≡ []) }
     ensures opened { IfOk result (λ writer. (sight writer.desk.place).opened ≡ true) }
-    ensures book { IfOk result (λ writer. (sight writer.desk.place).seen.book ≡ writer.desk.shown.value.log.book) }
+    ensures book { IfOk result (λ writer.
+        (sight writer.desk.place).seen.book ≡ writer.desk.shown.value.log.book) }
 {
     let second = copy_of(&first)?;
     let third = copy_of(&first)?;
@@ -120,7 +121,8 @@ fn add_readers<E: Drop>(
     ensures shown { writer.new.desk.shown ≡ writer.old.desk.shown }
     ensures pending { drop writer.new.behind writer.new.log.items ≡ drop writer.old.behind writer.old.log.items }
     ensures count { IfOk result (λ all. vec_len all ≡ readers) }
-    ensures readers { IfOk result (λ all. All (λ reader. reader ≡ newcomer (opening_by origin.now)) all.items) }
+    ensures readers { IfOk result (λ all. All (λ reader. reader ≡ newcomer
+        (opening_by origin.now)) all.items) }
 {
     let mut all = Vec::new(alloc);
     for _ in 0..readers {
@@ -150,7 +152,8 @@ pub fn open_editions<E: Drop, R: Wait>(
     ensures first { IfOk result (λ opened. opened.0.opening.editions ≡ arc_value first ∷ []) }
     ensures unclosed { IfOk result (λ opened. opened.0.closed ≡ false) }
     ensures readers { IfOk result (λ opened. vec_len opened.1 ≡ readers) }
-    ensures newcomers { IfOk result (λ opened. All (λ reader. reader ≡ newcomer opened.0.opening) opened.1.items) }
+    ensures newcomers { IfOk result (λ opened. All
+        (λ reader. reader ≡ newcomer opened.0.opening) opened.1.items) }
 {
     let (counter, nothing, log, pen) = open_log(&first)?;
     let slot = Slot {

@@ -75,7 +75,8 @@ impl<E: Drop> Model for EditionReader<E> {
 
     ghost view = { λ reader. view_by (sight reader.reader.place) reader.seen reader.knowledge };
 
-    ghost invariant = { λ reader. IsReader (sight reader.reader.place) reader.seen reader.count reader.knowledge };
+    ghost invariant = { λ reader. IsReader
+        (sight reader.reader.place) reader.seen reader.count reader.knowledge };
 }
 
 /// The history that was seen at a step, and the number of its editions.
@@ -119,10 +120,16 @@ fn enter_once<E: Drop>(
 ) -> (SlotReader<E>, (Token<E>, Mem<Noted<E>>))
     requires opened { (sight reader.place).opened ≡ true }
     requires book { known.book ≡ (sight reader.place).seen.book }
-    ensures ok { OnOk result.1.1 (SeesMore (sight reader.place) (sight result.0.place) known result.1.0 × Notes (sight reader.place) (sight result.0.place)) }
-    ensures noted { IfOk result.1.1 (λ noted. IsNoted (sight result.0.place) noted.sighting.seen noted.sighting.count) }
-    ensures entered { IfOk result.1.1 (λ noted. IfOk noted.entered (λ entered. (entered.number ≡ length (sight result.0.place).seen.log) × EndsWith (sight result.0.place).seen.log (Some (arc_value entered.edition)))) }
-    ensures err { OnErr result.1.1 (SeesNothing (sight reader.place) (sight result.0.place) known result.1.0) }
+    ensures ok { OnOk result.1.1 (SeesMore (sight reader.place)
+        (sight result.0.place) known result.1.0
+        × Notes (sight reader.place) (sight result.0.place)) }
+    ensures noted { IfOk result.1.1 (λ noted. IsNoted
+        (sight result.0.place) noted.sighting.seen noted.sighting.count) }
+    ensures entered { IfOk result.1.1 (λ noted. IfOk noted.entered (λ entered.
+        (entered.number ≡ length (sight result.0.place).seen.log)
+        × EndsWith (sight result.0.place).seen.log (Some (arc_value entered.edition)))) }
+    ensures err { OnErr result.1.1 (SeesNothing (sight reader.place)
+        (sight result.0.place) known result.1.0) }
 {
     match reader.enter_as::<Enters>() {
         Err(reader) => (reader, (known, Err(NoMemory))),
@@ -146,10 +153,16 @@ fn enter_at<E: Drop>(
 ) -> (Token<E>, Mem<Noted<E>>)
     requires opened { (sight reader.old.place).opened ≡ true }
     requires book { known.book ≡ (sight reader.old.place).seen.book }
-    ensures ok { OnOk result.1 (SeesMore (sight reader.old.place) (sight reader.new.place) known result.0 × Notes (sight reader.old.place) (sight reader.new.place)) }
-    ensures noted { IfOk result.1 (λ noted. IsNoted (sight reader.new.place) noted.sighting.seen noted.sighting.count) }
-    ensures entered { IfOk result.1 (λ noted. IfOk noted.entered (λ entered. (entered.number ≡ length (sight reader.new.place).seen.log) × EndsWith (sight reader.new.place).seen.log (Some (arc_value entered.edition)))) }
-    ensures err { OnErr result.1 (SeesNothing (sight reader.old.place) (sight reader.new.place) known result.0) }
+    ensures ok { OnOk result.1 (SeesMore (sight reader.old.place)
+        (sight reader.new.place) known result.0
+        × Notes (sight reader.old.place) (sight reader.new.place)) }
+    ensures noted { IfOk result.1 (λ noted. IsNoted
+        (sight reader.new.place) noted.sighting.seen noted.sighting.count) }
+    ensures entered { IfOk result.1 (λ noted. IfOk noted.entered (λ entered.
+        (entered.number ≡ length (sight reader.new.place).seen.log)
+        × EndsWith (sight reader.new.place).seen.log (Some (arc_value entered.edition)))) }
+    ensures err { OnErr result.1 (SeesNothing (sight reader.old.place)
+        (sight reader.new.place) known result.0) }
 {
     replace_with(reader, known, |reader, known| enter_once(reader, known))
 }
@@ -163,9 +176,14 @@ fn look_once<E: Drop>(
     requires opened { (sight reader.place).opened ≡ true }
     requires book { known.book ≡ (sight reader.place).seen.book }
     ensures entries { (sight result.0.place).entries ≡ (sight reader.place).entries }
-    ensures ok { OnOk result.1.1 (SeesMore (sight reader.place) (sight result.0.place) known result.1.0 × (least ≤ length (sight result.0.place).seen.log)) }
-    ensures seen { IfOk result.1.1 (λ sighting. IsNoted (sight result.0.place) sighting.seen sighting.count) }
-    ensures err { OnErr result.1.1 (SeesNothing (sight reader.place) (sight result.0.place) known result.1.0 ⊎ SeesMore (sight reader.place) (sight result.0.place) known result.1.0) }
+    ensures ok { OnOk result.1.1 (SeesMore (sight reader.place)
+        (sight result.0.place) known result.1.0
+        × (least ≤ length (sight result.0.place).seen.log)) }
+    ensures seen { IfOk result.1.1 (λ sighting. IsNoted
+        (sight result.0.place) sighting.seen sighting.count) }
+    ensures err { OnErr result.1.1 (SeesNothing (sight reader.place)
+        (sight result.0.place) known result.1.0
+        ⊎ SeesMore (sight reader.place) (sight result.0.place) known result.1.0) }
 {
     match reader.enter_as::<Looks>() {
         Err(reader) => (reader, (known, Err(NoMemory))),
@@ -192,9 +210,14 @@ fn look_at<E: Drop>(
     requires opened { (sight reader.old.place).opened ≡ true }
     requires book { known.book ≡ (sight reader.old.place).seen.book }
     ensures entries { (sight reader.new.place).entries ≡ (sight reader.old.place).entries }
-    ensures ok { OnOk result.1 (SeesMore (sight reader.old.place) (sight reader.new.place) known result.0 × (least ≤ length (sight reader.new.place).seen.log)) }
-    ensures seen { IfOk result.1 (λ sighting. IsNoted (sight reader.new.place) sighting.seen sighting.count) }
-    ensures err { OnErr result.1 (SeesNothing (sight reader.old.place) (sight reader.new.place) known result.0 ⊎ SeesMore (sight reader.old.place) (sight reader.new.place) known result.0) }
+    ensures ok { OnOk result.1 (SeesMore (sight reader.old.place)
+        (sight reader.new.place) known result.0
+        × (least ≤ length (sight reader.new.place).seen.log)) }
+    ensures seen { IfOk result.1 (λ sighting. IsNoted
+        (sight reader.new.place) sighting.seen sighting.count) }
+    ensures err { OnErr result.1 (SeesNothing (sight reader.old.place)
+        (sight reader.new.place) known result.0
+        ⊎ SeesMore (sight reader.old.place) (sight reader.new.place) known result.0) }
 {
     replace_with(reader, known, |reader, known| look_once(reader, known, least))
 }
@@ -209,11 +232,19 @@ fn enter_informed<E: Drop>(
     requires opened { (sight reader.old.place).opened ≡ true }
     requires book { known.book ≡ (sight reader.old.place).seen.book }
     requires late { is_behind ≡ false → least ≤ length (sight reader.old.place).seen.log }
-    ensures ok { OnOk result.1 (SeesMore (sight reader.old.place) (sight reader.new.place) known result.0 × Notes (sight reader.old.place) (sight reader.new.place)) }
+    ensures ok { OnOk result.1 (SeesMore (sight reader.old.place)
+        (sight reader.new.place) known result.0
+        × Notes (sight reader.old.place) (sight reader.new.place)) }
     ensures late { OnOk result.1 (least ≤ length (sight reader.new.place).seen.log) }
-    ensures noted { IfOk result.1 (λ noted. IsNoted (sight reader.new.place) noted.sighting.seen noted.sighting.count) }
-    ensures entered { IfOk result.1 (λ noted. IfOk noted.entered (λ entered. (entered.number ≡ length (sight reader.new.place).seen.log) × EndsWith (sight reader.new.place).seen.log (Some (arc_value entered.edition)))) }
-    ensures err { OnErr result.1 (((sight reader.new.place).entries ≡ (sight reader.old.place).entries) × (SeesNothing (sight reader.old.place) (sight reader.new.place) known result.0 ⊎ SeesMore (sight reader.old.place) (sight reader.new.place) known result.0)) }
+    ensures noted { IfOk result.1 (λ noted. IsNoted
+        (sight reader.new.place) noted.sighting.seen noted.sighting.count) }
+    ensures entered { IfOk result.1 (λ noted. IfOk noted.entered (λ entered.
+        (entered.number ≡ length (sight reader.new.place).seen.log)
+        × EndsWith (sight reader.new.place).seen.log (Some (arc_value entered.edition)))) }
+    ensures err { OnErr result.1 (((sight reader.new.place).entries ≡
+        (sight reader.old.place).entries)
+        × (SeesNothing (sight reader.old.place) (sight reader.new.place) known result.0
+        ⊎ SeesMore (sight reader.old.place) (sight reader.new.place) known result.0)) }
 {
     if !is_behind {
         return enter_at(reader, known);
@@ -254,13 +285,15 @@ impl<E: Drop> EditionReader<E> {
     pub fn enter(&mut self) -> Mem<Entered<E>>
         // What the entry gives.
         ensures number { IfOk result (λ entered. entered.number ≡ length self.new.seen) }
-        ensures newest { IfOk result (λ entered. EndsWith self.new.seen (arc_value entered.edition)) }
+        ensures newest { IfOk result (λ entered. EndsWith self.new.seen
+            (arc_value entered.edition)) }
         ensures entry { OnOk result (GainsEntry self.old self.new) }
         ensures informed { OnOk result (StartsWith self.new.seen self.old.told) }
         ensures last { OnOk result (IsTrue self.old.closed → self.new.seen ≡ self.old.told) }
 
         // What stays, whatever the answer.
-        ensures refused { OnErr result ((self.new ≡ self.old) ⊎ (GainsEntry self.old self.new × StartsWith self.new.seen self.old.told)) }
+        ensures refused { OnErr result ((self.new ≡ self.old) ⊎ (GainsEntry self.old self.new
+            × StartsWith self.new.seen self.old.told)) }
         ensures opening { self.new.opening ≡ self.old.opening }
         ensures later { StartsWith self.new.seen self.old.seen }
         ensures told { self.new.told ≡ self.old.told }

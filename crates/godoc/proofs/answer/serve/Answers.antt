@@ -1,5 +1,6 @@
+-- Where nothing is begun for want of memory, nothing is read or written.
 use Rattle.godoc.proofs.Sessions.{Serves-unbegun}
 use Rattle.godoc.proofs.answer.serve.Goals as goal
 
-pub returns-clause-session : goal.returns-clause-session
-returns-clause-session g c = ?
+pub returns-in_default-clause-session : goal.returns-in_default-clause-session
+returns-in_default-clause-session g c = Serves-unbegun c.args.edition _ _

@@ -1,8 +1,18 @@
 -- The reader sees nothing beyond what it was told for the last time.
-use Rattle.std.proofs.Common.{◌∙◌, ap, refl, subst, [], ◌∷◌}
+use Rattle.std.proofs.Common.{◌≡◌, Bool, true, false, ◌||◌, ◌∙◌, ap, refl, subst, [], ◌∷◌}
 use Rattle.publication.specs.View.{StartsWith}
-use Rattle.godoc.proofs.Sessions.{Serves-session}
+use Rattle.godoc.proofs.Sessions.{Serves-session, Serves-unbegun}
 use Rattle.godoc.proofs.answer.serve_told.Goals as goal
 
+or_closed : (before told : Bool) → told ≡ true → (before || told) ≡ true
+or_closed before told is = elim before as (λ b. (b || told) ≡ true) [ true ↦ refl | false ↦ is ]
+
+pub returns-in_default-clause-session : goal.returns-in_default-clause-session
+returns-in_default-clause-session g c edition is = Serves-unbegun edition _ _
+
 pub returns-clause-session : goal.returns-clause-session
-returns-clause-session g c = ?
+returns-clause-session g c edition is =
+    let serves = c.serve_link.ensures.serves in
+    let closed = serves.closed ∙ c.learn.ensures.closed ∙ or_closed _ _ c.requires.closed in
+    let told = serves.told ∙ c.learn.ensures.last c.requires.closed ∙ is in
+    Serves-session edition _ _ _ _ _ _ _ serves.session (subst (λ list. StartsWith list c.serve_link.new.reader.seen) told (serves.view.within closed))
