@@ -1,6 +1,7 @@
-pub mod FieldLemmas
-pub mod FrontLemmas
-pub mod LineLemmas
-pub mod ReadingLemmas
-pub mod ReplyLemmas
-pub mod StreamLemmas
+mod FieldLemmas
+mod FrontLemmas
+mod LineLemmas
+mod ReadingLemmas
+mod ReplyLemmas
+pub mod RequestLaws
+mod StreamLemmas

@@ -1,3 +1,3 @@
-pub mod RowLemmas
-pub mod TableLemmas
-pub mod TextLemmas
+mod RowLemmas
+mod TableLemmas
+mod TextLemmas

@@ -5,7 +5,7 @@ use Rattle.http_wire.specs.declared.heads.Next.{Next}
 use Rattle.http_wire.specs.declared.heads.Next.TheVariants as answers
 use Rattle.http_wire.specs.Reading.{Reading, Answers}
 use Rattle.http_wire.specs.Requests.{HasGiven}
-use Rattle.http_wire.proofs.StreamLemmas.{HasGiven-append}
+use Rattle.http_wire.proofs.RequestLaws.{HasGiven-append}
 use Rattle.link_io.specs.Streams.{Takes}
 use Rattle.link_io.proofs.Laws.{Takes-then, Takes-none}
 

@@ -10,7 +10,7 @@ use Rattle.http_wire.specs.declared.heads.Next.TheVariants as answers
 use Rattle.http_wire.specs.Reading.{Reading}
 use Rattle.http_wire.specs.Reply.{bad_reply_bytes}
 use Rattle.http_wire.specs.Requests.{Requests, HasGiven, none_yet, StreamEnd, Clean, Bad, Unfinished}
-use Rattle.http_wire.proofs.StreamLemmas.{Requests_unique}
+use Rattle.http_wire.proofs.RequestLaws.{Requests_unique}
 use Rattle.link_io.specs.Streams.{Takes, Adds}
 use Rattle.link_io.proofs.Laws.{Takes-then, Takes-none, Adds-then, Adds-none}
 use Rattle.publication.specs.View.{View, StartsWith}

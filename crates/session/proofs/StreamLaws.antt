@@ -4,7 +4,7 @@ use Rattle.httparse.specs.Grammar.{RequestHead, print_request}
 use Rattle.http_wire.specs.declared.request.Request.{Request}
 use Rattle.http_wire.specs.Head.{request_of}
 use Rattle.http_wire.specs.Requests.{BeginsWith, StandsHead, HasNoHead, IsRefused, StreamEnd, Clean, Bad, Unfinished, Requests, next, refused, ends, waits, HasGiven, none_yet, one_more}
-use Rattle.http_wire.proofs.StreamLemmas.{BeginsWith_unique, HasNoHead-not_begins, Requests-append_bad}
+use Rattle.http_wire.proofs.RequestLaws.{BeginsWith_unique, HasNoHead-not_begins, Requests-append_bad}
 
 -- ---- each stream has requests
 

@@ -3,7 +3,7 @@
 ghost use Rattle.std.specs.Prelude.{◌≡◌, ℕ, Bool, List, take};
 ghost use Rattle.http_wire.specs.declared.request.Request.{Request};
 ghost use Rattle.http_wire.specs.Requests.{Requests, StreamEnd};
-ghost use Rattle.session.specs.Text.{answerable, up_to_close};
+ghost use Rattle.session.specs.Text.{answerable, request_limit, up_to_close};
 
 /// No stream is without its requests: with the law that they are unique, what holds of whatever
 /// requests a stream has holds of its requests.
@@ -16,5 +16,5 @@ pub fn each_stream_has_requests()
 /// closes.
 pub fn the_first_thousand_up_to_a_close_are_answered()
     ensures { (requests : List Request)
-        → answerable requests ≡ take 1000 (up_to_close requests) }
+        → answerable requests ≡ take request_limit (up_to_close requests) }
 {}
