@@ -1,6 +1,6 @@
 //! The command `answer`: the requests of one connection, answered by one edition.
 
-ghost use Rattle.std.specs.Prelude.{◌≡◌, ◌≢◌, ◌⊎◌, true, List, ℕ, [], ◌∷◌, All};
+ghost use Rattle.std.specs.Prelude.{◌≡◌, ◌≢◌, ◌⊎◌, true, List, ℕ, [], ◌∷◌, All, vec_len};
 ghost use Rattle.plain_data.specs.Causes.{IsCaused};
 ghost use Rattle.godoc.specs.Outcome.{OpensAtMostOne};
 ghost use Rattle.godoc.specs.Serving.{Answers, IsOfAnswer, Serves};
@@ -29,11 +29,14 @@ fn serve<R: Wait, L: Link>(rt: &R, alloc: Global, edition: Edition, link: &mut L
     let Ok(first) = Arc::new(alloc, edition) else {
         return SessionEnd::NoMemory;
     };
+    let Ok(site) = Site::new(alloc) else {
+        return SessionEnd::NoMemory;
+    };
     let Ok((mut publisher, readers)) = open_editions(rt, alloc, first, 1) else {
         return SessionEnd::NoMemory;
     };
     let told = publisher.tell_last();
-    let end = serve_told(alloc, link, readers, told);
+    let end = serve_told(alloc, link, &site, readers, told);
     publisher.close(rt);
     end
 }
@@ -42,9 +45,11 @@ fn serve<R: Wait, L: Link>(rt: &R, alloc: Global, edition: Edition, link: &mut L
 fn serve_told<L: Link>(
     alloc: Global,
     link: &mut L,
+    site: &Site,
     mut readers: Vec<EditionReader<Edition>>,
     told: Told<Edition>,
 ) -> SessionEnd
+    requires one { vec_len readers ≡ 1 }
     requires opening { All (λ reader. reader.opening ≡ told.opening) readers.items }
     requires closed { told.closed ≡ true }
     ensures session { (edition : List (List ℕ)) → told.editions ≡ edition ∷ []
@@ -56,11 +61,9 @@ fn serve_told<L: Link>(
         (result ≡ SessionEnd.WriteFault) }
     ensures same_references { L.Source.references link.new ≡ L.Source.references link.old }
 {
-    let Some(mut reader) = readers.pop() else {
-        return SessionEnd::NoMemory;
-    };
+    let mut reader = readers.pop().unwrap();
     reader.learn(told);
-    serve_link(alloc, link, &mut reader, &Site)
+    serve_link(alloc, link, &mut reader, site)
 }
 
 /// Serves the connection whose two ways are the input and the output.

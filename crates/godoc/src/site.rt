@@ -1,67 +1,37 @@
 //! What answers requests: which page, with which head.
 
 ghost use Rattle.std.specs.Prelude.{◌≡◌, IfOk};
-ghost use Rattle.std.specs.Str.{bytes_eq};
-ghost use Rattle.godoc.specs.Replies.{code_of, content_by, page_of, reply_with, route_by, route_to};
+ghost use Rattle.godoc.specs.Replies.{code_of, content_by, page_of, reply_with};
 
 use crate::edition::Edition;
 use crate::pages::{list_page, message_page};
-use go_ast::Mem;
 use http_wire::{Code, Request, Verb, reply_head};
+use plain_data::Mem;
+use routes::{Router, Target};
 use session::Responder;
 use std::alloc::Global;
 
-/// Where a request leads.
-#[derive(Clone, Copy, Debug, PartialEq, Eq)]
-pub(crate) enum Route {
-    /// To the list of packages.
-    List,
-    /// To nothing.
-    NotFound,
-    /// Nowhere, since its method isn't allowed.
-    BadVerb,
-}
-
-/// Where a target leads: one written exactly `/pkg/` leads to the list of packages.
-fn route_to(target: &str) -> Route
-    ensures { result ≡ route_to target.now }
+/// The status of the reply. A target that has no page yet isn't found.
+fn code_of(target: &Target) -> Code
+    ensures { result ≡ code_of target.now }
 {
-    if target == "/pkg/" {
-        Route::List
-    } else {
-        Route::NotFound
-    }
-}
-
-/// Where a request leads. A method other than `GET` and `HEAD` isn't allowed, whatever the target.
-fn route_of(request: &Request) -> Route
-    ensures { result ≡ route_by request.now.verb request.now.target }
-{
-    match request.verb {
-        Verb::Get | Verb::Head => route_to(request.target.as_str()),
-        Verb::Other => Route::BadVerb,
-    }
-}
-
-/// The status of the reply.
-fn code_of(route: Route) -> Code
-    ensures { result ≡ code_of route }
-{
-    match route {
-        Route::List => Code::Ok,
-        Route::NotFound => Code::NotFound,
-        Route::BadVerb => Code::NotAllowed,
+    match target {
+        Target::List => Code::Ok,
+        Target::BadTarget => Code::BadRequest,
+        Target::BadVerb => Code::NotAllowed,
+        _ => Code::NotFound,
     }
 }
 
 /// The page of the reply.
-fn page_of(alloc: Global, edition: &Edition, route: Route) -> Mem<Vec<u8>>
-    ensures { IfOk result (λ page. page.items ≡ page_of edition.now route) }
+fn page_of(alloc: Global, edition: &Edition, target: &Target) -> Mem<Vec<u8>>
+    ensures { IfOk result (λ page. page.items ≡ page_of edition.now target.now) }
 {
-    match route {
-        Route::List => list_page(alloc, edition.packages()),
-        Route::NotFound => message_page(alloc, "Not found"),
-        Route::BadVerb => message_page(alloc, "Method not allowed"),
+    match target {
+        Target::List => list_page(alloc, edition.packages()),
+        Target::BadTarget => message_page(alloc, "Bad request"),
+        Target::BadVerb => message_page(alloc, "Method not allowed"),
+        _ => message_page(alloc, "Not found"),
     }
 }
 
@@ -94,7 +64,18 @@ fn reply_with(
 
 /// The site: it answers each request by a page of the edition.
 #[derive(Drop)]
-pub(crate) struct Site;
+pub(crate) struct Site {
+    router: Router,
+}
+
+impl Site {
+    /// The site with its table of routes.
+    pub(crate) fn new(alloc: Global) -> Mem<Site> {
+        Ok(Site {
+            router: Router::new(alloc)?,
+        })
+    }
+}
 
 impl Responder<Edition> for Site {
     ghost use Rattle.godoc.specs.Replies.{reply_of};
@@ -109,15 +90,9 @@ impl Responder<Edition> for Site {
         request: &Request,
         last: bool,
     ) -> Mem<Vec<u8>> {
-        let route = route_of(request);
-        let page = page_of(alloc, edition, route)?;
-        reply_with(
-            alloc,
-            code_of(route),
-            page.as_slice(),
-            number,
-            request.verb,
-            last,
-        )
+        let target = self.router.target(alloc, request)?;
+        let page = page_of(alloc, edition, &target)?;
+        let code = code_of(&target);
+        reply_with(alloc, code, page.as_slice(), number, request.verb, last)
     }
 }

@@ -80,6 +80,9 @@ const EMPTY_LIST: &[u8] =
 const NOT_FOUND: &[u8] =
     b"HTTP/1.1 404 Not Found\r\nContent-Type: text/html; charset=utf-8\r\nContent-Length: 122\r\nGodoc-Edition: 1\r\n\r\n<!DOCTYPE html>\n<html><head><meta charset=\"utf-8\"><title>Not found</title></head><body>\n<h1>Not found</h1>\n</body></html>\n";
 
+const BAD_TARGET: &[u8] =
+    b"HTTP/1.1 400 Bad Request\r\nContent-Type: text/html; charset=utf-8\r\nContent-Length: 126\r\nGodoc-Edition: 1\r\n\r\n<!DOCTYPE html>\n<html><head><meta charset=\"utf-8\"><title>Bad request</title></head><body>\n<h1>Bad request</h1>\n</body></html>\n";
+
 const NOT_ALLOWED: &[u8] =
     b"HTTP/1.1 405 Method Not Allowed\r\nContent-Type: text/html; charset=utf-8\r\nContent-Length: 140\r\nGodoc-Edition: 1\r\nAllow: GET, HEAD\r\n\r\n<!DOCTYPE html>\n<html><head><meta charset=\"utf-8\"><title>Method not allowed</title></head><body>\n<h1>Method not allowed</h1>\n</body></html>\n";
 
@@ -109,6 +112,34 @@ fn answers_the_same_wherever_the_input_is_cut(rt: HostRuntime) -> Result<(), Fai
         assert_eq!(rt; status, Status::Done, "cut at {cut}");
         assert_eq!(rt; written.as_slice(), wanted.as_slice(), "cut at {cut}");
     }
+    Ok(())
+}
+
+#[test]
+fn a_bad_target_leaves_the_connection_open(rt: HostRuntime) -> Result<(), Fail> {
+    let input =
+        b"GET /search HTTP/1.1\r\nHost: a\r\n\r\nGET http://a/pkg HTTP/1.1\r\nHost: a\r\n\r\n";
+    let (status, written) = answer_to(&rt, Given::input(input.as_slice()))?;
+    assert_eq!(rt; status, Status::Done);
+    let wanted = joined(rt.alloc(), &[BAD_TARGET, EMPTY_LIST_HEAD, EMPTY_LIST])?;
+    assert_eq!(rt; written.as_slice(), wanted.as_slice());
+    Ok(())
+}
+
+#[test]
+fn version_1_0_closes_after_its_reply(rt: HostRuntime) -> Result<(), Fail> {
+    let input = b"GET /pkg/ HTTP/1.0\r\n\r\nGET /pkg/ HTTP/1.0\r\n\r\n".as_slice();
+    let (status, written) = answer_to(&rt, Given::input(input))?;
+    assert_eq!(rt; status, Status::Done);
+    let wanted = joined(
+        rt.alloc(),
+        &[
+            &EMPTY_LIST_HEAD[..EMPTY_LIST_HEAD.len() - 2],
+            b"Connection: close\r\n\r\n",
+            EMPTY_LIST,
+        ],
+    )?;
+    assert_eq!(rt; written.as_slice(), wanted.as_slice());
     Ok(())
 }
 

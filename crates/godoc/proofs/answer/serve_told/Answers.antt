@@ -1,14 +1,11 @@
 -- The reader sees nothing beyond what it was told for the last time.
 use Rattle.std.proofs.Common.{◌≡◌, Bool, true, false, ◌||◌, ◌∙◌, ap, refl, subst, [], ◌∷◌}
 use Rattle.publication.specs.View.{StartsWith}
-use Rattle.godoc.proofs.Sessions.{Serves-session, Serves-unbegun}
+use Rattle.godoc.proofs.Sessions.{Serves-session}
 use Rattle.godoc.proofs.answer.serve_told.Goals as goal
 
 or_closed : (before told : Bool) → told ≡ true → (before || told) ≡ true
 or_closed before told is = elim before as (λ b. (b || told) ≡ true) [ true ↦ refl | false ↦ is ]
-
-pub returns-in_default-clause-session : goal.returns-in_default-clause-session
-returns-in_default-clause-session g c edition is = Serves-unbegun edition _ _
 
 pub returns-clause-session : goal.returns-clause-session
 returns-clause-session g c edition is =
