@@ -53,6 +53,7 @@ pub record Reads {E : Type 0} (old new : SourceState) (before after : List ℕ) 
   pub moved : IfOk result (λ n. after ≡ take n (drop old.position old.bytes) ++ drop n before)
   pub ok : IfOk result (λ n. new ≡ record old { position = old.position + n; calls = called old.calls })
   pub err : OnErr result (new ≡ record old { calls = called old.calls; faults = one_more old.faults })
+  pub same_buffer : OnErr result (after ≡ before)
 
 -- what a write of a piece did: it fails where its number says so, and else only where the bytes that it takes
 -- find no memory

@@ -71,7 +71,7 @@ impl Source for MemSource {
 
     /// Moves as many bytes as the buffer takes, up to the next cut or the end. It fails exactly
     /// where its number is one of those that fail, or 2 ^ 64 - 1. What stands behind the bytes in
-    /// the buffer stays.
+    /// the buffer stays; after a failure the whole buffer does.
     fn read(&mut self, buf: &mut [u8]) -> Result<usize, Failed>
         ensures reads { Reads self.old self.new buf.old buf.new result }
         ensures bytes { ReadsInto (remaining_of self.old) (remaining_of self.new) buf.new result }
