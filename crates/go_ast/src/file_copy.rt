@@ -2,11 +2,11 @@
 
 ghost use Rattle.std.specs.Prelude.{◌≡◌, IfOk};
 
-use crate::tree_copy::{copy_signature, copy_spans, copy_terms, copy_type};
 use crate::declaration::{
     Decl, File, FuncDecl, Group, ImportSpec, Receiver, TypeParam, TypeSpec, ValueSpec,
 };
 use crate::tree::TypeExpr;
+use crate::tree_copy::{copy_signature, copy_spans, copy_terms, copy_type};
 use plain_data::{Mem, Seq};
 use std::alloc::Global;
 

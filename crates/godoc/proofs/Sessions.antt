@@ -73,9 +73,9 @@ pub Serves-session : (paths : List (List ℕ)) (left left_after held held_after 
     → Serves paths left left_after held held_after result
 Serves-session paths left left_after held held_after old new result s begins =
     let known : All (λ entry. IsSome (edition_at (paths ∷ []) entry)) s.entries =
-        All-weaker (λ entry. IsSome (edition_at new.seen entry)) (λ entry. IsSome (edition_at (paths ∷ []) entry))
-        (λ entry some. subst (λ (w : Option (List (List ℕ))). IsSome w) (sym (ap (λ (w : List (List (List ℕ))). edition_at w entry) begins.1 ∙ edition_at-grown new.seen begins.0 entry some)) some)
-        s.entries s.known in
+    All-weaker (λ entry. IsSome (edition_at new.seen entry)) (λ entry. IsSome (edition_at (paths ∷ []) entry))
+    (λ entry some. subst (λ (w : Option (List (List ℕ))). IsSome w) (sym (ap (λ (w : List (List (List ℕ))). edition_at w entry) begins.1 ∙ edition_at-grown new.seen begins.0 entry some)) some)
+    s.entries s.known in
     serves_by paths left left_after held held_after old new result begins.0 s (sym begins.1) (entries_are paths s.entries known)
 
 -- a session that was not begun for want of memory

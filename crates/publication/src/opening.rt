@@ -98,11 +98,7 @@ fn add_reader<E: Drop>(
     let mut reader = writer.factory().reader()?;
     let note = writer.tell::<Telling>();
     reader.learn::<Learning>(note);
-    Ok(EditionReader::new(
-        reader,
-        nothing.again(),
-        known_at_opening(origin),
-    ))
+    Ok(EditionReader::new(reader, nothing.again(), known_at_opening(origin)))
 }
 
 // So many readers more.

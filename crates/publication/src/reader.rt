@@ -147,10 +147,7 @@ fn enter_once<E: Drop>(
 }
 
 // Enters once through a reference. It gives back what is known then.
-fn enter_at<E: Drop>(
-    reader: &mut SlotReader<E>,
-    known: Token<E>,
-) -> (Token<E>, Mem<Noted<E>>)
+fn enter_at<E: Drop>(reader: &mut SlotReader<E>, known: Token<E>) -> (Token<E>, Mem<Noted<E>>)
     requires opened { (sight reader.old.place).opened ≡ true }
     requires book { known.book ≡ (sight reader.old.place).seen.book }
     ensures ok { OnOk result.1 (SeesMore (sight reader.old.place)
@@ -219,7 +216,11 @@ fn look_at<E: Drop>(
         (sight reader.new.place) known result.0
         ⊎ SeesMore (sight reader.old.place) (sight reader.new.place) known result.0) }
 {
-    replace_with(reader, known, |reader, known| look_once(reader, known, least))
+    replace_with(
+        reader,
+        known,
+        |reader, known| look_once(reader, known, least),
+    )
 }
 
 // Enters once, after a look where more was told than this reader has seen: so what is noted is no older.

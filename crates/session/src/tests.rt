@@ -262,6 +262,9 @@ fn a_session_answers_by_the_editions_of_its_own_entries(rt: HostRuntime) -> Resu
     let end = serve_between(alloc, &mut more, &mut sink, &mut reader, &Naming);
     assert_eq!(rt; end, SessionEnd::Closed);
     publisher.close(&rt);
-    assert_eq!(rt; sink.held(), b"1eG/a\n1eH/b\n1eO/c\n2fG/a\n2fH/b\n2fO/c\n".as_slice());
+    assert_eq!(rt;
+        sink.held(),
+        b"1eG/a\n1eH/b\n1eO/c\n2fG/a\n2fH/b\n2fO/c\n".as_slice()
+    );
     Ok(())
 }

@@ -15,7 +15,6 @@ use Rattle.tree_io.specs.declared.tree.TheConstants.{MAX_FILE_BYTES}
 use Rattle.tree_io.specs.declared.tree.Entry.{Entry}
 use Rattle.tree_io.specs.declared.tree.Entry.TheVariants.{Bytes, Large}
 use Rattle.tree_io.proofs.Reading.{IsKnown-listed, IsReadSoFar-none, IsScannedFrom-read, IsSources-read}
-
 pub use Rattle.tree_io.proofs.FileMaps.{IsRising-strings}
 
 unread_count-append : (xs ys : Sources) → unread_count (xs ++ ys) ≡ unread_count xs + unread_count ys

@@ -66,4 +66,3 @@ returns-clause-later g c =
 pub returns-clause-view : goal.returns-clause-view
 returns-clause-view g c =
     view_holds _ _ _ _ (invariant_of-self-2 g c)
-
