@@ -71,6 +71,20 @@ returns-then-request-clause-session g c =
     (Session-closed _ _ _ _ _ _ _ _ _ _ _ _ _ _ _ c.loop-answered.invariant.progress (omega arith) hears (c.next_head.ensures.end c.loop-answered.invariant.end)
     enters c.in_ok-entered.ensures.later c.is_last-last.ensures (rw c.next_head.ensures.held at adds) c.if-request.true)
 
+pub loop-answered-init : goal.loop-answered-init
+loop-answered-init g c = record {
+  progress = search rules;
+  end = search rules;
+  read_faults = search rules;
+  write_faults = search rules;
+  same_references = search rules;
+  opening = search rules;
+  later = search rules;
+  told = search rules;
+  closed = search rules;
+  view = search rules;
+}
+
 pub loop-answered-preserved : goal.loop-answered-preserved
 loop-answered-preserved g c =
     let hears = rw c.in-Head.is at c.in_ok-request.ensures.hears in
