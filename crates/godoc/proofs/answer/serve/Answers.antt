@@ -5,8 +5,8 @@ use Rattle.godoc.proofs.answer.serve.Goals as goal
 pub returns-in_default-clause-session : goal.returns-in_default-clause-session
 returns-in_default-clause-session g c = Serves-unbegun c.args.edition _ _
 
-pub returns-in_default-2-clause-session : goal.returns-in_default-2-clause-session
-returns-in_default-2-clause-session g c = Serves-unbegun c.args.edition _ _
+pub returns-in_default-new-clause-session : goal.returns-in_default-new-clause-session
+returns-in_default-new-clause-session g c = Serves-unbegun c.args.edition _ _
 
-pub returns-in_default-3-clause-session : goal.returns-in_default-3-clause-session
-returns-in_default-3-clause-session g c = Serves-unbegun c.args.edition _ _
+pub returns-in_default-open_editions-clause-session : goal.returns-in_default-open_editions-clause-session
+returns-in_default-open_editions-clause-session g c = Serves-unbegun c.args.edition _ _
