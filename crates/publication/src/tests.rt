@@ -12,6 +12,32 @@ const LAST: u64 = 1_000;
 /// How often each of its readers enters.
 const ENTRIES: u64 = 3_000;
 
+// Publishes an edition, and answers its number.
+fn publish<R: Wait>(
+    rt: &R,
+    alloc: Global,
+    publisher: &mut Publisher<u32>,
+    edition: u32,
+) -> Option<u64>
+    requires { publisher.old.closed ≡ false }
+    ensures opening { publisher.new.opening ≡ publisher.old.opening }
+    ensures closed { publisher.new.closed ≡ false }
+{
+    if publisher.count() == u64::MAX {
+        return None;
+    }
+    let edition = Arc::new(alloc, edition).ok()?;
+    publisher.publish(rt, edition).ok()
+}
+
+// Enters, and answers the number and the edition.
+fn enter(reader: &mut EditionReader<u32>) -> Option<(u64, u32)>
+    ensures { reader.new.opening ≡ reader.old.opening }
+{
+    let entered = reader.enter().ok()?;
+    Some((entered.number, *entered.edition))
+}
+
 #[test]
 fn an_entry_gives_the_newest_edition_at_its_own_step(rt: HostRuntime) {
     let alloc = rt.alloc();
@@ -19,19 +45,13 @@ fn an_entry_gives_the_newest_edition_at_its_own_step(rt: HostRuntime) {
     let (mut publisher, mut readers) = open_editions(&rt, alloc, first, 2).expect(&rt, "open");
     let mut r = readers.pop().expect(&rt, "r");
     let mut s = readers.pop().expect(&rt, "s");
-    let entered = r.enter().expect(&rt, "r enters");
-    assert!(rt; entered.number == 1 && *entered.edition == 7);
-    let second = Arc::new(alloc, 8).expect(&rt, "edition 8");
-    assert!(rt; publisher.publish(&rt, second) == Ok(2));
-    let entered = s.enter().expect(&rt, "s enters");
-    assert!(rt; entered.number == 2 && *entered.edition == 8);
-    let entered = r.enter().expect(&rt, "r enters again");
-    assert!(rt; entered.number == 2 && *entered.edition == 8);
-    let third = Arc::new(alloc, 9).expect(&rt, "edition 9");
-    assert!(rt; publisher.publish(&rt, third) == Ok(3));
+    assert!(rt; enter(&mut r) == Some((1, 7)));
+    assert!(rt; publish(&rt, alloc, &mut publisher, 8) == Some(2));
+    assert!(rt; enter(&mut s) == Some((2, 8)));
+    assert!(rt; enter(&mut r) == Some((2, 8)));
+    assert!(rt; publish(&rt, alloc, &mut publisher, 9) == Some(3));
     r.learn(publisher.tell());
-    let entered = r.enter().expect(&rt, "r enters what was told");
-    assert!(rt; entered.number == 3 && *entered.edition == 9);
+    assert!(rt; enter(&mut r) == Some((3, 9)));
     assert!(rt; publisher.count() == 3 && *publisher.latest() == 9);
     publisher.close(&rt);
 }
@@ -43,16 +63,11 @@ fn the_last_that_is_told_stays_the_newest(rt: HostRuntime) {
     let (mut publisher, mut readers) = open_editions(&rt, alloc, first, 2).expect(&rt, "open");
     let mut r = readers.pop().expect(&rt, "r");
     let mut s = readers.pop().expect(&rt, "s");
-    let second = Arc::new(alloc, 8).expect(&rt, "edition 8");
-    assert!(rt; publisher.publish(&rt, second) == Ok(2));
+    assert!(rt; publish(&rt, alloc, &mut publisher, 8) == Some(2));
     r.learn(publisher.tell_last());
     s.learn(publisher.tell_last());
     assert!(rt; r.look().is_ok() && s.look().is_ok());
-    let entered = r.enter().expect(&rt, "r enters");
-    assert!(rt; entered.number == 2 && *entered.edition == 8);
-    s.learn(publisher.tell());
-    let entered = s.enter().expect(&rt, "s enters");
-    assert!(rt; entered.number == 2 && *entered.edition == 8);
+    assert!(rt; enter(&mut r) == Some((2, 8)) && enter(&mut s) == Some((2, 8)));
     publisher.close(&rt);
 }
 
@@ -159,7 +174,7 @@ fn numbers_rise_for_readers_beside_a_publisher(rt: HostRuntime) {
     join_mut(
         &rt,
         &mut ||
-            requires { publisher.now.closed ≡ false }
+            requires { publisher.closed ≡ false }
         { published = publish_up_to(&rt, alloc, &mut publisher, LAST) },
         &mut || watch_all(&rt, &mut watched),
     );
