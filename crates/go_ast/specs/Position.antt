@@ -1,6 +1,6 @@
 -- Where a byte offset stands in a source, as an editor counts: lines from 1, and columns in bytes from 1.
 use Rattle.std.specs.Prelude.{ℕ, ◌+◌, List, [], ◌∷◌, take, if◌then◌else◌, ◌==◌, count_by}
-use Rattle.go_ast.specs.Lexical.{newline}
+use Rattle.go_ast.specs.Characters.{newline}
 
 -- the line of an offset: one more than the newlines before it
 abbrev pub line_of : List ℕ → ℕ → ℕ

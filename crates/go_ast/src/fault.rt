@@ -30,9 +30,6 @@ pub enum Fault {
     Unread,
     /// The build line on this line is malformed, or is a second one.
     BadBuildLine(u32),
-    /// Something stands in the source that this version doesn't read yet. It carries the offset to
-    /// which items lead from the start, and at which none stands.
-    NotYet(u32),
 }
 
 /// Why a call on a source gave no answer.
@@ -63,7 +60,6 @@ impl fmt::Display for Fault {
             Fault::FileTooLarge => write!(f, "fault 11: file too large"),
             Fault::Unread => write!(f, "fault 12: unread"),
             Fault::BadBuildLine(line) => write!(f, "fault 13: bad build line {line}"),
-            Fault::NotYet(offset) => write!(f, "fault 14: not read yet at byte {offset}"),
         }
     }
 }

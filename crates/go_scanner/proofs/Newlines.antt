@@ -5,7 +5,7 @@ use Rattle.std.proofs.lemmas.Bool.{false_from_ne_true, not_from_true, not_from_f
 use Rattle.std.proofs.lemmas.List.{append-nil, append_assoc, drop-drop, length-drop, take_rest}
 use Rattle.std.proofs.lemmas.List.Sums.{prefix_len_is}
 use Rattle.memchr.specs.Find.{IsFirstByte, is_byte}
-use Rattle.go_ast.specs.Lexical.{newline}
+use Rattle.go_ast.specs.Characters.{newline}
 use Rattle.go_ast.specs.Position.{line_starts, offsets_after_newlines}
 
 -- the bytes before the newline, by what a search for it answers

@@ -1,20 +1,26 @@
 -- What a scan has found when it stands at an offset, and how each item takes it on.
-use Rattle.std.proofs.Common.{◌≡◌, ◌==◌, ℕ, ◌+◌, ◌-◌, ◌<◌, ◌≤◌, true, List, [], ◌∷◌, ◌++◌, length, take, drop, Option, Some, None, refl, sym, ◌∙◌, ap, subst, arith}
+use Rattle.std.proofs.Common.{◌≡◌, ◌==◌, ℕ, ◌+◌, ◌-◌, ◌<◌, ◌≤◌, true, false, ◌&&◌, nat_eq, inl, inr, List, [], ◌∷◌, ◌++◌, length, take, drop, Option, Some, None, refl, sym, ◌∙◌, ap, subst, arith}
 use Rattle.std.proofs.lemmas.List.{append-nil, append_assoc, drop-drop, drop_all, drop_at, length-append, length-drop, take_rest}
 use Rattle.std.specs.Prelude.{IsUtf8}
+use Rattle.std.specs.List.{starts_with}
+use Rattle.std.proofs.lemmas.Bool.{cases_Bool, and_left, ne_eqb}
+use Rattle.go_ast.specs.Characters.{byte_order_mark_bytes}
 use Rattle.go_ast.specs.declared.token.Token.{Token}
 use Rattle.go_ast.specs.declared.token.Comment.{Comment}
 use Rattle.go_ast.specs.Lexical.{Item, print_item, Stands}
 use Rattle.go_ast.specs.Reading.{Leads, Reads, IsStuckAt, line_ends, tokens_of, comments_of}
 use Rattle.go_scanner.specs.declared.shape.Shape.{Shape}
-use Rattle.go_scanner.specs.Shapes.{shape_of, shape_at, length_of}
-use Rattle.go_scanner.specs.Steps.{semicolon_of, added_tokens, added_comments, pending_after}
-use Rattle.go_scanner.proofs.Standing.{sound, none_stands, length_of-shape_of, length-print_item-pos}
-use Rattle.go_scanner.proofs.ItemShapes.{ends_at, tokens_at, line_ends-shape, tokens_of-shape, comments_of-shape, semicolon_before, step_tokens}
+use Rattle.go_scanner.specs.Shapes.{shape_of, item_shape, shape_at, length_of}
+use Rattle.go_scanner.specs.declared.shape.Shape.TheVariants.{Blank}
+use Rattle.go_scanner.specs.Steps.{mark_length, semicolon_of, added_tokens, added_comments, pending_after}
+use Rattle.go_scanner.proofs.Standing.Boundaries.{utf8_after}
+use Rattle.go_scanner.proofs.Standing.Items.{past_mark, sound, none_stands, length_of-shape_of, length-print_item-pos}
+use Rattle.go_scanner.proofs.ItemShapes.{ends_at, tokens_before, line_ends-shape, tokens_of-shape, comments_of-shape, semicolon_before, step_tokens}
 
 -- items lead to the offset; the tokens and comments so far go on to those of any items that follow
 pub record Progress (bytes : List ℕ) (at : ℕ) (pending : Option ℕ) (tokens : List Token) (comments : List Comment) : Type 0 where
   pub within : at ≤ length bytes
+  pub utf8 : IsUtf8 (drop at bytes)
   pub items : List Item
   pub leads : Leads 0 items bytes (drop at bytes)
   pub all_tokens : (more : List Item) → tokens_of 0 (items ++ more) ≡ tokens ++ (semicolon_before pending (line_ends more) ++ tokens_of at more)
@@ -38,9 +44,10 @@ leads_on offset [] more bytes mid rest same later = subst (λ bs. Leads offset m
 leads_on offset (item ∷ items) more bytes mid rest leads later =
     (leads.0, leads.1, leads.2, leads_on (offset + length (print_item item)) items more leads.0 mid rest leads.3 later)
 
-pub start : (bytes : List ℕ) → Progress bytes 0 None [] []
-start bytes = record {
+pub start : (bytes : List ℕ) → IsUtf8 bytes → Progress bytes 0 None [] []
+start bytes utf8 = record {
   within = omega arith;
+  utf8 = utf8;
   items = [];
   leads = refl;
   all_tokens = λ more. refl;
@@ -62,13 +69,14 @@ after_item bytes at pending tokens comments item rest before split stands =
     subst (λ n. Leads n (item ∷ []) (drop at bytes) (drop (at + length_of shape) bytes)) (sym here) (rest, split, stands, past) in
     record {
       within = omega (arith, length-drop at bytes);
+      utf8 = subst IsUtf8 past (utf8_after at item rest stands (subst IsUtf8 split before.utf8));
       items = before.items ++ item ∷ [];
       leads = leads_on 0 before.items (item ∷ []) bytes (drop at bytes) (drop (at + length_of shape) bytes) before.leads last;
       all_tokens = λ more.
           ap (tokens_of 0) (append_assoc before.items (item ∷ []) more) ∙ before.all_tokens (item ∷ more)
           ∙ ap (λ ends. tokens ++ (semicolon_before pending ends ++ tokens_of at (item ∷ more))) (line_ends-shape item more)
           ∙ ap (λ later. tokens ++ (semicolon_before pending (ends_at shape (line_ends more)) ++ later))
-          (tokens_of-shape at item more ∙ ap (λ n. tokens_at shape at (line_ends more) (tokens_of (at + n) more)) size)
+          (tokens_of-shape at item more ∙ ap (λ n. tokens_before shape at (line_ends more) (tokens_of (at + n) more)) size)
           ∙ ap (λ later. tokens ++ later) (step_tokens shape at pending (line_ends more) (tokens_of (at + length_of shape) more))
           ∙ sym (append_assoc tokens (added_tokens shape at pending) _);
       all_comments = λ more.
@@ -82,14 +90,14 @@ pub after : (bytes : List ℕ) (at : ℕ) (pending : Option ℕ) (tokens : List 
     → Progress bytes at pending tokens comments → shape_at (at == 0) (drop at bytes) ≡ Some shape
     → Progress bytes (at + length_of shape) (pending_after shape at pending) (tokens ++ added_tokens shape at pending) (comments ++ added_comments shape at)
 after bytes at pending tokens comments shape before found =
-    let stands = sound at (drop at bytes) shape found in
+    let stands = sound at (drop at bytes) shape before.utf8 found in
     subst (λ s. Progress bytes (at + length_of s) (pending_after s at pending) (tokens ++ added_tokens s at pending) (comments ++ added_comments s at))
     stands.same (after_item bytes at pending tokens comments stands.item stands.after before stands.split stands.stands)
 
 -- an item has a byte
-pub length_of-pos : (bytes : List ℕ) (at : ℕ) (shape : Shape) → shape_at (at == 0) (drop at bytes) ≡ Some shape → 0 < length_of shape
-length_of-pos bytes at shape found =
-    let stands = sound at (drop at bytes) shape found in
+pub length_of-pos : (bytes : List ℕ) (at : ℕ) (shape : Shape) → IsUtf8 (drop at bytes) → shape_at (at == 0) (drop at bytes) ≡ Some shape → 0 < length_of shape
+length_of-pos bytes at shape utf8 found =
+    let stands = sound at (drop at bytes) shape utf8 found in
     let size : length_of shape ≡ length (print_item stands.item) = ap length_of (sym stands.same) ∙ length_of-shape_of stands.item in
     omega (arith, length-print_item-pos at stands.item stands.after stands.stands)
 
@@ -117,13 +125,51 @@ stuck bytes at pending tokens comments before more nothing = record {
   leads = before.leads;
   within = omega (arith, length-drop at bytes);
   place = omega (arith, length-drop at bytes);
-  none = none_stands at (drop at bytes) nothing;
+  none = none_stands at (drop at bytes) before.utf8 nothing;
 }
 
--- what the code finds in the slice from the offset on
-pub found_here : (bytes : List ℕ) (at : ℕ) (found : Option Shape) → found ≡ shape_at (at == 0) (take (length bytes - at) (drop at bytes)) → shape_at (at == 0) (drop at bytes) ≡ found
-found_here bytes at found same = ap (shape_at (at == 0)) (sym (take_rest bytes at)) ∙ sym same
+mark_here : (bytes : List ℕ) → starts_with nat_eq bytes byte_order_mark_bytes ≡ true → shape_at true bytes ≡ Some (Blank 3)
+unfolding shape_at
+mark_here bytes mark = rw mark refl
 
-pub same_progress : (bytes : List ℕ) (at there : ℕ) (pending pended : Option ℕ) (tokens all : List Token) (comments every : List Comment)
-    → Progress bytes at pending tokens comments → there ≡ at → pended ≡ pending → all ≡ tokens → every ≡ comments → Progress bytes there pended all every
-same_progress bytes at there pending pended tokens all comments every before place wait ts cs = rw (place, wait, ts, cs) before
+-- past the byte order mark, if there is one
+pub record Reached (bytes : List ℕ) (at : ℕ) (pending : Option ℕ) (tokens : List Token) (comments : List Comment) : Type 0 where
+  pub progress : Progress bytes at pending tokens comments
+  pub no_mark : ((at == 0) && starts_with nat_eq (drop at bytes) byte_order_mark_bytes) ≡ false
+
+-- where the scan stands, an item stands as it does past the start
+pub item_here : (bytes : List ℕ) (at : ℕ) (pending : Option ℕ) (tokens : List Token) (comments : List Comment) → Reached bytes at pending tokens comments → shape_at (at == 0) (drop at bytes) ≡ item_shape (drop at bytes)
+item_here bytes at pending tokens comments reached = past_mark (at == 0) (drop at bytes) reached.no_mark
+
+no_mark_later : (bytes : List ℕ) (at : ℕ) → 0 < at → ((at == 0) && starts_with nat_eq (drop at bytes) byte_order_mark_bytes) ≡ false
+no_mark_later bytes at some = and_left (at == 0) (starts_with nat_eq (drop at bytes) byte_order_mark_bytes) (ne_eqb at 0 (λ e. omega arith))
+
+-- one item more
+pub goes_on : (bytes : List ℕ) (at : ℕ) (pending : Option ℕ) (tokens : List Token) (comments : List Comment) (shape : Shape)
+    → Reached bytes at pending tokens comments → Some shape ≡ item_shape (drop at bytes)
+    → Reached bytes (at + length_of shape) (pending_after shape at pending) (tokens ++ added_tokens shape at pending) (comments ++ added_comments shape at)
+goes_on bytes at pending tokens comments shape reached found =
+    let here : shape_at (at == 0) (drop at bytes) ≡ Some shape = item_here bytes at pending tokens comments reached ∙ sym found in
+    let some = length_of-pos bytes at shape reached.progress.utf8 here in
+    record {
+      progress = after bytes at pending tokens comments shape reached.progress here;
+      no_mark = no_mark_later bytes (at + length_of shape) (omega arith);
+    }
+
+pub goes_on_some : (bytes : List ℕ) (at : ℕ) (pending : Option ℕ) (tokens : List Token) (comments : List Comment) (shape : Shape)
+    → Reached bytes at pending tokens comments → Some shape ≡ item_shape (drop at bytes) → 0 < length_of shape
+goes_on_some bytes at pending tokens comments shape reached found =
+    length_of-pos bytes at shape reached.progress.utf8 (item_here bytes at pending tokens comments reached ∙ sym found)
+
+-- the start, past the mark
+pub begin : (bytes : List ℕ) → IsUtf8 bytes → Reached bytes (mark_length bytes) None [] []
+begin bytes utf8 = elim (cases_Bool (starts_with nat_eq bytes byte_order_mark_bytes)) [
+  | inr none ↦ rw none (record { progress = start bytes utf8; no_mark = none })
+  | inl mark ↦
+      let found : shape_at true bytes ≡ Some (Blank 3) = mark_here bytes mark in
+      rw mark (record { progress = after bytes 0 None [] [] (Blank 3) (start bytes utf8) found; no_mark = no_mark_later bytes 3 (omega arith) })
+]
+
+pub same_reached : (bytes : List ℕ) (at there : ℕ) (pending pended : Option ℕ) (tokens all : List Token) (comments every : List Comment)
+    → Reached bytes at pending tokens comments → there ≡ at → pended ≡ pending → all ≡ tokens → every ≡ comments → Reached bytes there pended all every
+same_reached bytes at there pending pended tokens all comments every before place wait ts cs = rw (place, wait, ts, cs) before

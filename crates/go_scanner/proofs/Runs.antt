@@ -1,10 +1,6 @@
 -- The run of a number, and how long it is.
-use Rattle.std.proofs.Common.{◌≡◌, ℕ, suc, ◌+◌, ◌<◌, ◌≤◌, Bool, true, false, ◌||◌, ◌&&◌, not, List, [], ◌∷◌, length, take, drop, get_or, refl, sym, ap, arith, cond, eqb}
-use Rattle.std.proofs.lemmas.Bool.Decides.{nat_tests}
-use Rattle.std.specs.List.{list_all}
-use Rattle.std.specs.Char.{is_ascii_digit}
+use Rattle.std.proofs.Common.{◌≡◌, ℕ, suc, ◌+◌, ◌<◌, ◌≤◌, Bool, true, false, List, [], ◌∷◌, length, take, drop, get_or, refl, sym, ap, arith, cond}
 use Rattle.go_ast.specs.Lexical.{goes_on, run_after, number_run, is_hexadecimal}
-use Rattle.go_scanner.specs.Shapes.{is_decimal}
 
 -- the run is a front of the bytes
 front_step : (b : ℕ) (bytes run : List ℕ) (t : Bool) → run ≡ take (length run) bytes → cond t (b ∷ run) [] ≡ take (length (cond t (b ∷ run) [])) (b ∷ bytes)
@@ -35,11 +31,3 @@ pub length_number_run : (bytes : List ℕ) → 0 < length bytes → 0 < length (
 unfolding number_run
 length_number_run [] some = some
 length_number_run (b ∷ bytes) some = omega arith
-
-one_more : (n : ℕ) → eqb n 0 ≡ eqb (suc n) 1
-one_more n = grind (arith, nat_tests)
-
--- a run of digits with no 0 at its front, or 0 alone
-pub is_decimal_parts : (run : List ℕ) → 0 < length run → is_decimal run ≡ (list_all is_ascii_digit run && (not (eqb (get_or run 0 0) 48) || eqb (length run) 1))
-is_decimal_parts [] some = absurd (omega arith)
-is_decimal_parts (d ∷ ds) some = ap (λ b. (is_ascii_digit d && list_all is_ascii_digit ds) && (not (eqb d 48) || b)) (one_more (length ds))

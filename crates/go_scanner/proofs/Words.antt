@@ -1,91 +1,89 @@
--- Which words are among the keywords, by their length.
-use Rattle.std.proofs.Common.{◌≡◌, ◌≢◌, ℕ, suc, Bool, true, false, ◌||◌, List, [], ◌∷◌, length, refl, sym, ◌∙◌, ap, cond, eqb}
-use Rattle.std.proofs.lemmas.Bool.{ne_eqb, eqb-false, and_right}
-use Rattle.std.specs.Str.{bytes_eq}
-use Rattle.std.specs.Prelude.{codes}
-use Rattle.go_ast.specs.Lexical.{is_among, keywords}
+-- The name at the front of a text, byte by byte.
+use Rattle.std.proofs.Common.{◌≡◌, ℕ, zero, suc, ◌+◌, ◌≤◌, ◌<◌, true, false, List, [], ◌∷◌, ◌++◌, length, take, drop, get_or, IsUtf8, encode_utf8, encode_utf8_all, sym, ap, ◌∙◌, subst, refl, arith, one-add, length-append, length-drop, cond}
+use Rattle.std.specs.List.{prefix_len, take_while}
+use Rattle.std.specs.Char.{len_utf8}
+use Rattle.std.specs.Str.{chars}
+use Rattle.std.proofs.lemmas.List.{drop_more, drop-drop, drop_all}
+use Rattle.std.proofs.lemmas.Str.{encode_ascii, chars_past_char, IsUtf8-past_char, drop_past_char, length-encode}
+use Rattle.go_chars.specs.Identifiers.{is_letter_or_digit}
+use Rattle.go_scanner.specs.Shapes.{word_at}
+use Rattle.go_scanner.proofs.Standing.Characters.{chars-ascii, after_ascii_utf8}
 
--- texts of unlike lengths differ
-bytes_eq-lengths : (text known : List ℕ) → length known ≢ length text → bytes_eq text known ≡ false
-bytes_eq-lengths [] [] unlike = absurd (unlike refl)
-bytes_eq-lengths [] (y ∷ ys) unlike = refl
-bytes_eq-lengths (x ∷ xs) [] unlike = refl
-bytes_eq-lengths (x ∷ xs) (y ∷ ys) unlike = and_right _ _ (bytes_eq-lengths xs ys (λ same. unlike (ap suc same)))
+-- the name by the characters
+more_of : (bytes : List ℕ) (c : ℕ) (cs : List ℕ) → chars bytes ≡ c ∷ cs → is_letter_or_digit c ≡ true → word_at bytes ≡ encode_utf8 c ++ encode_utf8_all (take_while is_letter_or_digit cs)
+unfolding word_at
+more_of bytes c cs e passes = ap (λ l. encode_utf8_all (take_while is_letter_or_digit l)) e ∙ rw (passes, one-add) refl
 
--- the texts of a length
-abbrev with_length : ℕ → List (List ℕ) → List (List ℕ)
-with_length n [] = []
-with_length n (text ∷ texts) = cond (eqb (length text) n) (text ∷ with_length n texts) (with_length n texts)
+none_of : (bytes : List ℕ) (c : ℕ) (cs : List ℕ) → chars bytes ≡ c ∷ cs → is_letter_or_digit c ≡ false → word_at bytes ≡ []
+unfolding word_at
+none_of bytes c cs e fails = ap (λ l. encode_utf8_all (take_while is_letter_or_digit l)) e ∙ rw fails refl
 
-step : (known : List ℕ) (rest : List (List ℕ)) (text : List ℕ) (b : Bool) → eqb (length known) (length text) ≡ b
-    → (bytes_eq text known || is_among rest text) ≡ is_among (cond b (known ∷ rest) rest) text
-step known rest text true same = refl
-step known rest text false unlike =
-    ap (λ b. b || is_among rest text) (bytes_eq-lengths text known (eqb-false _ _ unlike))
+word_at-chars : (bytes : List ℕ) → encode_utf8_all (take_while is_letter_or_digit (chars bytes)) ≡ word_at bytes
+unfolding word_at
+word_at-chars bytes = refl
 
--- only texts of its length count
-pub is_among-with_length : (texts : List (List ℕ)) (text : List ℕ) → is_among texts text ≡ is_among (with_length (length text) texts) text
-is_among-with_length [] text = refl
-is_among-with_length (known ∷ texts) text =
-    ap (λ b. bytes_eq text known || b) (is_among-with_length texts text) ∙ step known _ text _ refl
+word_at-nil : word_at [] ≡ []
+unfolding word_at chars
+word_at-nil = refl
 
-of_length : (text : List ℕ) (n : ℕ) → length text ≡ n → is_among keywords text ≡ is_among (with_length n keywords) text
-of_length text n same = is_among-with_length keywords text ∙ ap (λ m. is_among (with_length m keywords) text) same
+-- the name so far, and what is left of it
+pub record WordFrom (text : List ℕ) (end : ℕ) : Type 0 where
+  pub within : end ≤ length text
+  pub utf8 : IsUtf8 (drop end text)
+  pub rest : end + length (word_at (drop end text)) ≡ length (word_at text)
 
-or_false : (b : Bool) → (b || false) ≡ b
-or_false true = refl
-or_false false = refl
+pub start : (text : List ℕ) → IsUtf8 text → WordFrom text 0
+start text utf8 = record { within = omega arith; utf8 = utf8; rest = omega arith }
 
-pub keyword_of_two : (text : List ℕ) → length text ≡ 2 → is_among keywords text ≡ is_among (codes "go" ∷ codes "if" ∷ []) text
-unfolding keywords
-keyword_of_two text same = of_length text 2 same
+module _ (text : List ℕ) (end : ℕ) (before : WordFrom text end) where
+  module _ (within : end < length text) (low : get_or text end 0 < 128) where
+    here : drop end text ≡ get_or text end 0 ∷ drop (end + 1) text
+    here = drop_more text end 0 within
 
-pub keyword_of_three : (text : List ℕ) → length text ≡ 3 → is_among keywords text ≡ is_among (codes "for" ∷ codes "map" ∷ codes "var" ∷ []) text
-unfolding keywords
-keyword_of_three text same = of_length text 3 same
+    here_chars : chars (drop end text) ≡ get_or text end 0 ∷ chars (drop (end + 1) text)
+    here_chars = ap chars here ∙ chars-ascii (get_or text end 0) (drop (end + 1) text) low
 
-pub keyword_of_four : (text : List ℕ) → length text ≡ 4 → is_among keywords text ≡ is_among (codes "case" ∷ codes "chan" ∷ codes "else" ∷ codes "func" ∷ codes "goto" ∷ codes "type" ∷ []) text
-unfolding keywords
-keyword_of_four text same = of_length text 4 same
+    pub past_ascii : is_letter_or_digit (get_or text end 0) ≡ true → WordFrom text (end + 1)
+    past_ascii passes =
+        let b = get_or text end 0 in
+        let whole : word_at (drop end text) ≡ b ∷ word_at (drop (end + 1) text) =
+        more_of (drop end text) b (chars (drop (end + 1) text)) here_chars passes
+        ∙ ap (λ l. l ++ encode_utf8_all (take_while is_letter_or_digit (chars (drop (end + 1) text)))) (encode_ascii b low)
+        ∙ ap (λ l. b ∷ l) (word_at-chars (drop (end + 1) text)) in
+        record {
+          within = omega arith;
+          utf8 = after_ascii_utf8 [] b (drop (end + 1) text) low (subst IsUtf8 here before.utf8);
+          rest = omega (arith, before.rest, ap length whole);
+        }
 
-pub keyword_of_five : (text : List ℕ) → length text ≡ 5 → is_among keywords text ≡ is_among (codes "break" ∷ codes "const" ∷ codes "defer" ∷ codes "range" ∷ []) text
-unfolding keywords
-keyword_of_five text same = of_length text 5 same
+    pub stops_ascii : is_letter_or_digit (get_or text end 0) ≡ false → end ≡ length (word_at text)
+    stops_ascii fails =
+        let none = none_of (drop end text) (get_or text end 0) (chars (drop (end + 1) text)) here_chars fails in
+        omega (arith, before.rest, ap length none)
 
-pub keyword_of_six : (text : List ℕ) → length text ≡ 6 → is_among keywords text ≡ is_among (codes "import" ∷ codes "return" ∷ codes "select" ∷ codes "struct" ∷ codes "switch" ∷ []) text
-unfolding keywords
-keyword_of_six text same = of_length text 6 same
+  module _ (c : ℕ) (rest : List ℕ) (split : drop end text ≡ encode_utf8 c ++ rest) where
+    wide_chars : chars (drop end text) ≡ c ∷ chars rest
+    wide_chars = chars_past_char (drop end text) rest c before.utf8 split
 
-pub keyword_of_seven : (text : List ℕ) → length text ≡ 7 → is_among keywords text ≡ is_among (codes "default" ∷ codes "package" ∷ []) text
-unfolding keywords
-keyword_of_seven text same = of_length text 7 same
+    pub past_wide : (n : ℕ) → n ≡ length (encode_utf8 c) → is_letter_or_digit c ≡ true → WordFrom text (end + n)
+    past_wide n size passes =
+        let whole : word_at (drop end text) ≡ encode_utf8 c ++ word_at rest =
+        more_of (drop end text) c (chars rest) wide_chars passes ∙ ap (λ l. encode_utf8 c ++ l) (word_at-chars rest) in
+        let place : n ≡ len_utf8 c = size ∙ length-encode c in
+        let past : drop (end + n) text ≡ rest = ap (λ k. drop (end + k) text) place ∙ drop_past_char text rest end c split in
+        let long : length (drop end text) ≡ length (encode_utf8 c) + length rest = ap length split ∙ length-append (encode_utf8 c) rest in
+        record {
+          within = omega (arith, long, length-drop end text, size, before.within);
+          utf8 = subst IsUtf8 (sym past) (IsUtf8-past_char (drop end text) rest c before.utf8 split);
+          rest = omega (arith, before.rest, ap length whole, length-append (encode_utf8 c) (word_at rest), size, ap (λ l. length (word_at l)) past);
+        }
 
-pub keyword_of_eight : (text : List ℕ) → length text ≡ 8 → is_among keywords text ≡ bytes_eq text (codes "continue")
-unfolding keywords
-keyword_of_eight text same = of_length text 8 same ∙ or_false _
+    pub stops_wide : is_letter_or_digit c ≡ false → end ≡ length (word_at text)
+    stops_wide fails =
+        let none = none_of (drop end text) c (chars rest) wide_chars fails in
+        omega (arith, before.rest, ap length none)
 
-pub keyword_of_nine : (text : List ℕ) → length text ≡ 9 → is_among keywords text ≡ bytes_eq text (codes "interface")
-unfolding keywords
-keyword_of_nine text same = of_length text 9 same ∙ or_false _
-
-pub keyword_of_eleven : (text : List ℕ) → length text ≡ 11 → is_among keywords text ≡ bytes_eq text (codes "fallthrough")
-unfolding keywords
-keyword_of_eleven text same = of_length text 11 same ∙ or_false _
-
--- no keyword has another length
-pub keyword_of_none : (text : List ℕ) → length text ≢ 2 → length text ≢ 3 → length text ≢ 4 → length text ≢ 5 → length text ≢ 6 → length text ≢ 7 → length text ≢ 8 → length text ≢ 9 → length text ≢ 11 → is_among keywords text ≡ false
-unfolding keywords
-keyword_of_none text two three four five six seven eight nine eleven =
-    let n = length text in
-    let e2 = ne_eqb 2 n (λ e. two (sym e)) in
-    let e3 = ne_eqb 3 n (λ e. three (sym e)) in
-    let e4 = ne_eqb 4 n (λ e. four (sym e)) in
-    let e5 = ne_eqb 5 n (λ e. five (sym e)) in
-    let e6 = ne_eqb 6 n (λ e. six (sym e)) in
-    let e7 = ne_eqb 7 n (λ e. seven (sym e)) in
-    let e8 = ne_eqb 8 n (λ e. eight (sym e)) in
-    let e9 = ne_eqb 9 n (λ e. nine (sym e)) in
-    let e11 = ne_eqb 11 n (λ e. eleven (sym e)) in
-    is_among-with_length keywords text ∙ simp (e2, e3, e4, e5, e6, e7, e8, e9, e11)
-
-pub ruleset keywords_by_length = (keyword_of_two, keyword_of_three, keyword_of_four, keyword_of_five, keyword_of_six, keyword_of_seven, keyword_of_eight, keyword_of_nine, keyword_of_eleven, keyword_of_none)
+  pub ends : length text ≤ end → end ≡ length (word_at text)
+  ends past =
+      let none = ap word_at (drop_all end text past) ∙ word_at-nil in
+      omega (arith, before.rest, ap length none)

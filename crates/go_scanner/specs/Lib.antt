@@ -1,4 +1,9 @@
 pub mod Answers
+pub mod Bases
+pub mod Classes
+pub mod LineIndex
 pub mod Marks
+pub mod NumberBytes
 pub mod Shapes
 pub mod Steps
+pub mod TextBytes

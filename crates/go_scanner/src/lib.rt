@@ -2,16 +2,22 @@
 //! elements").
 #![tactic(auto)]
 
+mod comment;
+mod fault;
+mod front;
 mod laws;
 mod lines;
 mod mark;
 mod number;
+mod position;
+mod run;
 mod scanner;
 mod shape;
 #[cfg(test)]
 mod tests;
+mod text;
 mod word;
 
 pub use laws::one_reading_or_fault;
+pub use position::{Position, position_of};
 pub use scanner::scan;
-pub use word::is_keyword;

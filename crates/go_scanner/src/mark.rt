@@ -2,7 +2,7 @@
 
 ghost use Rattle.std.specs.Prelude.{◌≡◌, ◌<◌, [], ◌∷◌, length, codes, slice_index};
 ghost use Rattle.go_scanner.specs.Marks.{stands_alone, takes_equals, takes_itself, operator_length};
-ghost use Rattle.go_ast.specs.Lexical.{is_among};
+ghost use Rattle.go_chars.specs.Identifiers.{is_among};
 ghost use Rattle.go_scanner.specs.Shapes.{mark_shape, operator_shape};
 
 use crate::shape::Shape;
@@ -10,7 +10,7 @@ use crate::word::is;
 use go_ast::TokenKind;
 
 /// The byte at a place, or 0 past the end.
-fn byte_at(bytes: &[u8], place: usize) -> u8
+pub fn byte_at(bytes: &[u8], place: usize) -> u8
     ensures { result ≡ slice_index bytes.now place }
 {
     if place < bytes.len() { bytes[place] } else { 0 }

@@ -1,132 +1,84 @@
 //! One pass over a source.
 
-ghost use Rattle.std.specs.Prelude.{◌≡◌, ◌+◌, ◌^◌, ◌++◌, ◌<◌, ◌≤◌, List, [], length, IfOk, IfErr, OnOk, MatchResult, IsUtf8};
+ghost use Rattle.std.specs.Prelude.{◌≡◌, ◌++◌, ◌∷◌, ◌≤◌, All, List, [], length, IfOk, IfErr, OnOk, MatchResult, IsUtf8};
 ghost use Rattle.go_ast.specs.declared.token.Token.{Token};
 ghost use Rattle.go_ast.specs.declared.token.Comment.{Comment};
 ghost use Rattle.go_ast.specs.declared.fault.Fault.{Fault};
 ghost use Rattle.go_ast.specs.Position.{line_starts};
-ghost use Rattle.go_ast.specs.Reading.{Reads, ScanFault};
+ghost use Rattle.go_ast.specs.Reading.{Reads, ScanFault, token_of};
+ghost use Rattle.go_ast.specs.Tokens.{AreSpelled, IsWithin};
 ghost use Rattle.go_scanner.specs.Answers.{AreInOrder, IsRead, IsRefusedAs, RefusedFor};
-ghost use Rattle.go_scanner.specs.Shapes.{length_of};
-ghost use Rattle.go_scanner.specs.Steps.{semicolon_of, added_tokens, added_comments, pending_after};
+ghost use Rattle.go_scanner.specs.Steps.{comment_of, mark_length, pending_at, pending_of, semicolon_at};
 
+use crate::fault::fault_at;
+use crate::front::item_shape;
 use crate::lines::line_starts;
-use crate::shape::{Shape, shape_at};
+use crate::shape::Shape;
 use go_ast::{Comment, Fault, Refused, Scanned, Seq, Span, Token, TokenKind};
 use std::alloc::Global;
 
-/// What was found from the start of a source to a place in it.
+/// The tokens and comments of a source.
 #[derive(Drop)]
 struct Found {
-    /// The place: a byte offset.
-    at: usize,
-    /// The tokens before the place.
     tokens: Vec<Token>,
-    /// The comments before the place.
     comments: Vec<Comment>,
-    /// Where the last token ends, if it takes a semicolon and no line has ended since.
-    pending: Option<u32>,
 }
 
-impl Found {
-    /// Nothing yet, with room for some tokens.
-    fn new(alloc: Global, room: usize) -> Result<Found, Refused>
-        ensures at { IfOk result (λ found. found.at ≡ 0) }
-        ensures tokens { IfOk result (λ found. found.tokens.items ≡ []) }
-        ensures comments { IfOk result (λ found. found.comments.items ≡ []) }
-        ensures pending { IfOk result (λ found. found.pending ≡ None) }
-        ensures err { IfErr result (λ refused. refused ≡ Refused.NoMemory) }
-    {
-        Ok(Found {
-            at: 0,
-            tokens: Vec::with_capacity(alloc, room).map_err(no_memory)?,
-            comments: Vec::new(alloc),
-            pending: None,
-        })
-    }
+/// No token yet, with room for as many as a source of this length mostly has.
+fn no_tokens(alloc: Global, length: usize) -> Result<Vec<Token>, Refused>
+    ensures tokens { IfOk result (λ tokens. tokens.items ≡ []) }
+    ensures err { IfErr result (λ refused. refused ≡ Refused.NoMemory) }
+{
+    Vec::with_capacity(alloc, length / 4).map_err(no_memory)
+}
 
-    /// Puts the semicolon that the last token takes at the end of a line.
-    fn end_line(&mut self) -> Result<(), Refused>
-        ensures tokens { OnOk result (self.new.tokens.items ≡ self.old.tokens.items ++ semicolon_of self.old.pending) }
-        ensures pending { OnOk result (self.new.pending ≡ None) }
-        ensures at { self.new.at ≡ self.old.at }
-        ensures comments { self.new.comments.items ≡ self.old.comments.items }
-        ensures err { IfErr result (λ refused. refused ≡ Refused.NoMemory) }
-    {
-        if let Some(end) = self.pending {
-            let span = Span { start: end, end };
-            let kind = TokenKind::AutoSemi;
-            self.tokens.push(Token { kind, span }).map_err(no_memory)?;
-            self.pending = None;
+/// Adds the semicolon that the last token takes, where a line ends, and gives what is pending after that.
+fn end_line(
+    tokens: &mut Vec<Token>,
+    pending: Option<u32>,
+    ends: bool,
+) -> Result<Option<u32>, Refused>
+    ensures tokens { OnOk result (tokens.new.items ≡ tokens.old.items ++ semicolon_at ends pending) }
+    ensures pending { IfOk result (λ left. left ≡ pending_at ends pending) }
+    ensures err { IfErr result (λ refused. refused ≡ Refused.NoMemory) }
+{
+    match pending {
+        Some(end) if ends => {
+            push_token(tokens, TokenKind::AutoSemi, end, end)?;
+            Ok(None)
         }
-        Ok(())
+        _ => Ok(pending),
     }
+}
 
-    /// Adds a line comment of so many bytes, which stands at the place.
-    fn take_comment(&mut self, length: usize) -> Result<(), Refused>
-        requires { self.old.at + length < 2 ^ 32 }
-        ensures comments { OnOk result (self.new.comments.items ≡ self.old.comments.items ++ added_comments (Shape.Comment length) self.old.at) }
-        ensures at { OnOk result (self.new.at ≡ self.old.at + length) }
-        ensures tokens { self.new.tokens.items ≡ self.old.tokens.items }
-        ensures pending { self.new.pending ≡ self.old.pending }
-        ensures err { IfErr result (λ refused. refused ≡ Refused.NoMemory) }
-    {
-        let end = self.at + length;
-        let span = Span {
-            start: self.at as u32,
-            end: end as u32,
-        };
-        let general = false;
-        self.comments
-            .push(Comment { span, general })
-            .map_err(no_memory)?;
-        self.at = end;
-        Ok(())
-    }
+/// Where a token ends, if it takes a semicolon.
+fn pending_of(takes: bool, end: u32) -> Option<u32>
+    ensures { result ≡ pending_of takes end }
+{
+    if takes { Some(end) } else { None }
+}
 
-    /// Adds a token of so many bytes, which stands at the place.
-    fn take_token(&mut self, kind: TokenKind, takes: bool, length: usize) -> Result<(), Refused>
-        requires { self.old.at + length < 2 ^ 32 }
-        ensures tokens { OnOk result (self.new.tokens.items ≡ self.old.tokens.items ++ added_tokens (Shape.Token kind takes length) self.old.at self.old.pending) }
-        ensures pending { OnOk result (self.new.pending ≡ pending_after (Shape.Token kind takes length) self.old.at self.old.pending) }
-        ensures at { OnOk result (self.new.at ≡ self.old.at + length) }
-        ensures comments { self.new.comments.items ≡ self.old.comments.items }
-        ensures err { IfErr result (λ refused. refused ≡ Refused.NoMemory) }
-    {
-        let end = self.at + length;
-        let span = Span {
-            start: self.at as u32,
-            end: end as u32,
-        };
-        self.tokens.push(Token { kind, span }).map_err(no_memory)?;
-        self.pending = if takes { Some(end as u32) } else { None };
-        self.at = end;
-        Ok(())
-    }
+/// Adds a token that stands between two offsets.
+fn push_token(tokens: &mut Vec<Token>, kind: TokenKind, start: u32, end: u32) -> Result<(), Refused>
+    ensures ok { OnOk result (tokens.new.items ≡ tokens.old.items ++ token_of kind start end ∷ []) }
+    ensures err { IfErr result (λ refused. refused ≡ Refused.NoMemory) }
+{
+    let span = Span { start, end };
+    tokens.push(Token { kind, span }).map_err(no_memory)
+}
 
-    /// Takes the item of this shape, which stands at the place.
-    fn take(&mut self, shape: Shape) -> Result<(), Refused>
-        requires { self.old.at + length_of shape < 2 ^ 32 }
-        ensures at { OnOk result (self.new.at ≡ self.old.at + length_of shape) }
-        ensures tokens { OnOk result (self.new.tokens.items ≡ self.old.tokens.items ++ added_tokens shape self.old.at self.old.pending) }
-        ensures comments { OnOk result (self.new.comments.items ≡ self.old.comments.items ++ added_comments shape self.old.at) }
-        ensures pending { OnOk result (self.new.pending ≡ pending_after shape self.old.at self.old.pending) }
-        ensures err { IfErr result (λ refused. refused ≡ Refused.NoMemory) }
-    {
-        match shape {
-            Shape::Blank(length) => self.at += length,
-            Shape::LineEnd => {
-                self.end_line()?;
-                self.at += 1;
-            }
-            Shape::Comment(length) => {
-                self.end_line()?;
-                self.take_comment(length)?;
-            }
-            Shape::Token(kind, takes, length) => self.take_token(kind, takes, length)?,
-        }
-        Ok(())
-    }
+/// Adds a comment that stands between two offsets.
+fn push_comment(
+    comments: &mut Vec<Comment>,
+    general: bool,
+    start: u32,
+    end: u32,
+) -> Result<(), Refused>
+    ensures ok { OnOk result (comments.new.items ≡ comments.old.items ++ comment_of general start end ∷ []) }
+    ensures err { IfErr result (λ refused. refused ≡ Refused.NoMemory) }
+{
+    let span = Span { start, end };
+    comments.push(Comment { span, general }).map_err(no_memory)
 }
 
 /// The refusal of a call that found no memory.
@@ -136,35 +88,71 @@ fn no_memory<E: Drop>(_: E) -> Refused
     Refused::NoMemory
 }
 
-/// Reads a source from its start to its end, or to the first place where no item stands.
-fn read(alloc: Global, source: &[u8]) -> Result<Found, Refused>
-    requires utf8 { IsUtf8 source.now }
-    requires length { length source.now ≤ 4194304 }
-    ensures read { IfOk result (λ found. Reads source.now found.tokens.items found.comments.items) }
-    ensures refused { IfErr result (RefusedFor source.now) }
+/// How many bytes the byte order mark at the start has, or 0 where there is none.
+fn mark_length(source: &[u8]) -> usize
+    ensures { result ≡ mark_length source.now }
 {
-    let mut found = Found::new(alloc, source.len() / 4)?;
-    while found.at < source.len() {
-        match shape_at(&source[found.at..], found.at == 0) {
-            None => return Err(Refused::Fault(Fault::NotYet(found.at as u32))),
-            Some(shape) => found.take(shape)?,
+    if source.starts_with(&[0xEF, 0xBB, 0xBF]) {
+        3
+    } else {
+        0
+    }
+}
+
+/// Reads a source from its start to its end, or to the first place where no item stands.
+fn read(alloc: Global, text: &str) -> Result<Found, Refused>
+    requires { length text.now ≤ 4194304 }
+    ensures read { IfOk result (λ found. Reads text.now found.tokens.items found.comments.items) }
+    ensures refused { IfErr result (RefusedFor text.now) }
+{
+    let source = text.as_bytes();
+    let mut tokens = no_tokens(alloc, source.len())?;
+    let mut comments = Vec::new(alloc);
+    let mut pending = None;
+    let mut at = mark_length(source);
+    while at < source.len() {
+        let Some(shape) = item_shape(&text[at..]) else {
+            return Err(Refused::Fault(fault_at(at as u32, &source[at..])));
+        };
+        let start = at as u32;
+        at += shape.length();
+        let end = at as u32;
+        match shape {
+            Shape::Blank(_) => {}
+            Shape::LineEnd => pending = end_line(&mut tokens, pending, true)?,
+            Shape::Comment(_) => {
+                pending = end_line(&mut tokens, pending, true)?;
+                push_comment(&mut comments, false, start, end)?;
+            }
+            Shape::General(_, lines) => {
+                pending = end_line(&mut tokens, pending, lines)?;
+                push_comment(&mut comments, true, start, end)?;
+            }
+            Shape::Token(kind, takes, _) => {
+                push_token(&mut tokens, kind, start, end)?;
+                pending = pending_of(takes, end);
+            }
         }
     }
-    found.end_line()?;
-    Ok(found)
+    end_line(&mut tokens, pending, true)?;
+    Ok(Found { tokens, comments })
 }
 
 /// The tokens and comments of a Go source, and the offsets where its lines begin.
 ///
 /// The source has at most 4,194,304 bytes. The answer is `Refused::Fault` exactly where the source has
-/// no reading: with `NotUtf8` and the length of the longest prefix that is UTF-8 where it isn't UTF-8,
-/// else with `NotYet` and the byte offset to which items lead from the start and at which none stands.
-/// It is `Refused::NoMemory` where an allocation was refused. (Go specification, "Lexical elements".)
+/// no reading: with `NotUtf8` and the length of the longest prefix that is UTF-8 where it isn't UTF-8;
+/// else with the byte offset to which items lead from the start and at which none stands, as
+/// `OpenComment` where a general comment without an end begins there, as `OpenString` where a rune or a
+/// text without its closing mark does, and else as `BadToken`. It is `Refused::NoMemory` where an
+/// allocation was refused. (Go specification, "Lexical elements".)
 pub fn scan(alloc: Global, source: &[u8]) -> Result<Scanned, Refused>
     requires { length source.now ≤ 4194304 }
 
     ensures read { IfOk result (λ scanned. Reads source.now scanned.tokens scanned.comments) }
     ensures lines { IfOk result (λ scanned. scanned.lines ≡ line_starts source.now) }
+    ensures within { IfOk result (λ scanned. All (IsWithin (length source.now)) scanned.tokens) }
+    ensures spelled { IfOk result (λ scanned. AreSpelled source.now scanned.tokens) }
     ensures spans { IfOk result (λ scanned. AreInOrder 0 scanned.tokens (length source.now)) }
     ensures fault { IfErr result (RefusedFor source.now) }
 
@@ -177,14 +165,11 @@ pub fn scan(alloc: Global, source: &[u8]) -> Result<Scanned, Refused>
         → MatchResult result (λ scanned. ⊥) (λ refused. IsRefusedAs fault refused) }
     ensures unread { (fault : Fault) → result ≡ Err (Refused.Fault fault) → ¬ IsRead source.now }
 {
-    if let Err(e) = str::from_utf8(source) {
-        return Err(Refused::Fault(Fault::NotUtf8(e.valid_up_to() as u32)));
-    }
-    let Found {
-        tokens,
-        comments,
-        ..
-    } = read(alloc, source)?;
+    let text = match str::from_utf8(source) {
+        Ok(text) => text,
+        Err(e) => return Err(Refused::Fault(Fault::NotUtf8(e.valid_up_to() as u32))),
+    };
+    let Found { tokens, comments } = read(alloc, text)?;
     let lines = line_starts(alloc, source).map_err(no_memory)?;
     Ok(Scanned {
         tokens: Seq::from_vec(tokens),

@@ -1,8 +1,10 @@
 //! Sources at each edge. The expected places are counted in the sources by hand.
 
 use crate::scan;
-use go_ast::TokenKind::{AutoSemi, Ident, Int, Keyword, Operator, Semi, Text};
-use go_ast::{Comment, Fault, Refused, Span, Token, TokenKind};
+use go_ast::TokenKind::{
+    AutoSemi, Float, Ident, Imaginary, Int, Keyword, Operator, Rune, Semi, Text,
+};
+use go_ast::{Comment, Refused, Span, Token, TokenKind};
 use std::alloc::{AllocError, Global};
 use std::process::Abort;
 use std::test::Fail;
@@ -20,6 +22,14 @@ fn comment(start: u32, end: u32) -> Comment {
     Comment {
         span,
         general: false,
+    }
+}
+
+fn general(start: u32, end: u32) -> Comment {
+    let span = Span { start, end };
+    Comment {
+        span,
+        general: true,
     }
 }
 
@@ -49,25 +59,14 @@ fn assert_places(
     }
 }
 
-/// The offset of the place where no item of a source stands.
-fn stuck_at(alloc: Global, source: &[u8]) -> Option<u32> {
+/// The text of the fault of a source, or the empty text where it has none.
+fn fault_of(alloc: Global, source: &[u8]) -> Result<String, AllocError> {
     if source.len() > LARGEST {
-        return None;
+        return Ok(String::new(alloc));
     }
     match scan(alloc, source) {
-        Err(Refused::Fault(Fault::NotYet(offset))) => Some(offset),
-        _ => None,
-    }
-}
-
-/// The length of the longest prefix that is UTF-8 of a source that isn't.
-fn valid_length(alloc: Global, source: &[u8]) -> Option<u32> {
-    if source.len() > LARGEST {
-        return None;
-    }
-    match scan(alloc, source) {
-        Err(Refused::Fault(Fault::NotUtf8(offset))) => Some(offset),
-        _ => None,
+        Err(Refused::Fault(fault)) => format!(in alloc; "{fault}"),
+        _ => Ok(String::new(alloc)),
     }
 }
 
@@ -123,6 +122,9 @@ fn comments_and_lines(rt: HostRuntime) {
     assert_places(&rt, b"a//b\r", &[comment(1, 5)], &[0]);
     let both = [comment(0, 2), comment(3, 9)];
     assert_places(&rt, "//\n///*é\n".as_bytes(), &both, &[0, 3, 10]);
+    let marks = [general(0, 4), general(5, 11)];
+    assert_places(&rt, b"/**/ /**\n*/", &marks, &[0, 9]);
+    assert_places(&rt, b"/*/*\0//*/", &[general(0, 9)], &[0]);
 }
 
 #[test]
@@ -142,43 +144,141 @@ fn semicolons(rt: HostRuntime) {
         ("0\n", true),
         ("\"\"\n", true),
         (";\n", false),
+        ("a/**/\n", true),
+        ("a/*\n*/b", true),
+        ("a/**/+", false),
+        ("(/*\n*/)", false),
+        ("'a'\n", true),
+        ("``\r\n", true),
+        ("a\r+", false),
     ] {
         let source = source.as_bytes();
         assert!(rt; source.len() <= LARGEST);
         match scan(rt.alloc(), source) {
-            Ok(scanned) => assert_eq!(rt; scanned.tokens.len() == 2, takes, "in {source:?}"),
+            Ok(scanned) => {
+                let second = scanned.tokens.get(1).copied();
+                let found = second.is_some_and(|token| token.kind == AutoSemi);
+                assert_eq!(rt; found, takes, "in {source:?}");
+            }
             Err(refused) => assert!(rt; false, "{refused:?} of {source:?}"),
         }
     }
 }
 
 #[test]
-fn faults(rt: HostRuntime) {
-    for (source, offset) in [
-        ("a\u{FEFF}", 1),
-        ("0x1", 0),
-        (" 08", 1),
-        ("\n1.5", 1),
-        ("a=.5", 2),
-        ("(1_000", 1),
-        ("00", 0),
-        ("1i", 0),
-        ("1e+5", 0),
-        ("a\"\\\"", 1),
-        ("\"a", 0),
-        ("\"é\"", 0),
-        ("a/*b*/", 1),
-        ("aé", 1),
-        ("a 'b'", 2),
-        ("`a`", 0),
-        ("a#", 1),
-        ("a\0", 1),
+fn literals(rt: HostRuntime) {
+    for (kind, source) in [
+        (Int, "0"),
+        (Int, "42"),
+        (Int, "1_000"),
+        (Int, "0755"),
+        (Int, "0_7"),
+        (Int, "0b1_0"),
+        (Int, "0B_1"),
+        (Int, "0o17"),
+        (Int, "0O7"),
+        (Int, "0x_1F"),
+        (Int, "0XaE"),
+        (Float, "1.5"),
+        (Float, ".5"),
+        (Float, "1."),
+        (Float, "08.5"),
+        (Float, "1.e+3"),
+        (Float, "1E6"),
+        (Float, ".12_3e-4_5"),
+        (Float, "0x1p-2"),
+        (Float, "0x.8P+0"),
+        (Float, "0X_1.8p1"),
+        (Float, "0x1.p1"),
+        (Imaginary, "0i"),
+        (Imaginary, "08i"),
+        (Imaginary, "0b1i"),
+        (Imaginary, ".5e3i"),
+        (Imaginary, "0x1p2i"),
+        (Rune, "'a'"),
+        (Rune, "'\u{E9}'"),
+        (Rune, "'\u{1F600}'"),
+        (Rune, "'\u{FEFF}'"),
+        (Rune, r"'\''"),
+        (Rune, r"'\n'"),
+        (Rune, r"'\377'"),
+        (Rune, r"'\xfF'"),
+        (Rune, r"'\uD7FF'"),
+        (Rune, r"'\uE000'"),
+        (Rune, r"'\U0010FFFF'"),
+        (Text, "\"\""),
+        (Text, r#""\"\\\a""#),
+        (Text, r#""\101\x41\u0041\U00000041""#),
+        (Text, "\"\u{E9}\0'\""),
+        (Text, "``"),
+        (Text, "`a\r\n\\\"`"),
+        (Ident, "_"),
+        (Ident, "a1"),
+        (Ident, "gofunc"),
+        (Ident, "\u{E9}t\u{E9}"),
+        (Ident, "\u{1C5}\u{2B0}\u{4E16}"),
+        (Ident, "x\u{661}"),
+        (Ident, "\u{FF21}"),
+        (Keyword, "fallthrough"),
     ] {
-        let found = stuck_at(rt.alloc(), source.as_bytes());
-        assert_eq!(rt; found, Some(offset), "in {source:?}");
+        let end = source.len() as u32;
+        let wanted = [token(kind, 0, end), token(AutoSemi, end, end)];
+        assert_tokens(&rt, source.as_bytes(), &wanted);
     }
-    assert_eq!(rt; valid_length(rt.alloc(), b"package q\n\xFF"), Some(10));
-    assert_eq!(rt; valid_length(rt.alloc(), b"#\xC3"), Some(1));
+}
+
+#[test]
+fn faults(rt: HostRuntime) -> Result<(), Fail> {
+    for (source, fault) in [
+        ("a\u{FEFF}", "fault 2: bad token at byte 1"),
+        ("\u{FEFF}\u{FEFF}", "fault 2: bad token at byte 3"),
+        ("a#", "fault 2: bad token at byte 1"),
+        ("a\0", "fault 2: bad token at byte 1"),
+        ("a\u{2167}", "fault 2: bad token at byte 1"),
+        ("\u{661}x", "fault 2: bad token at byte 0"),
+        (" 08", "fault 2: bad token at byte 1"),
+        ("0b12", "fault 2: bad token at byte 0"),
+        ("0o8", "fault 2: bad token at byte 0"),
+        ("0x", "fault 2: bad token at byte 0"),
+        ("0_", "fault 2: bad token at byte 0"),
+        ("1__0", "fault 2: bad token at byte 0"),
+        ("(1_)", "fault 2: bad token at byte 1"),
+        ("1._5", "fault 2: bad token at byte 0"),
+        ("1e+", "fault 2: bad token at byte 0"),
+        ("1p2", "fault 2: bad token at byte 0"),
+        ("0x1.5", "fault 2: bad token at byte 0"),
+        ("0x.p1", "fault 2: bad token at byte 0"),
+        ("1.2.3", "fault 2: bad token at byte 0"),
+        ("''", "fault 2: bad token at byte 0"),
+        ("'''", "fault 2: bad token at byte 0"),
+        ("'ab'", "fault 2: bad token at byte 0"),
+        (r"'\400'", "fault 2: bad token at byte 0"),
+        (r"'\uD800'", "fault 2: bad token at byte 0"),
+        (r"'\uDFFF'", "fault 2: bad token at byte 0"),
+        (r"'\U00110000'", "fault 2: bad token at byte 0"),
+        (r#"'\"'"#, "fault 2: bad token at byte 0"),
+        (r#"a "\q""#, "fault 2: bad token at byte 2"),
+        (r#""\'""#, "fault 2: bad token at byte 0"),
+        (r#""\x4""#, "fault 2: bad token at byte 0"),
+        ("/*", "fault 3: open comment at byte 0"),
+        ("a/*/", "fault 3: open comment at byte 1"),
+        ("\"a", "fault 4: open string at byte 0"),
+        ("\"a\n\"", "fault 4: open string at byte 0"),
+        ("a\"\\\"", "fault 4: open string at byte 1"),
+        ("\"\\q\n", "fault 4: open string at byte 0"),
+        ("'\\'\n", "fault 4: open string at byte 0"),
+        ("'\\", "fault 4: open string at byte 0"),
+        (" 'a", "fault 4: open string at byte 1"),
+        ("`a\n", "fault 4: open string at byte 0"),
+    ] {
+        let found = fault_of(rt.alloc(), source.as_bytes())?;
+        assert_eq!(rt; found.as_str(), fault, "in {source:?}");
+    }
+    let cut = fault_of(rt.alloc(), b"package q\n\xFF")?;
+    assert_eq!(rt; cut.as_str(), "fault 1: not UTF-8 at byte 10");
+    let later = fault_of(rt.alloc(), b"#\xC3")?;
+    assert_eq!(rt; later.as_str(), "fault 1: not UTF-8 at byte 1");
+    Ok(())
 }
 
 #[test]

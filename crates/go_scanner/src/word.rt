@@ -1,38 +1,56 @@
 //! Names and keywords.
 
-ghost use Rattle.std.specs.Prelude.{◌≡◌, [], ◌∷◌, codes};
-ghost use Rattle.std.specs.List.{prefix_len};
-ghost use Rattle.std.specs.Str.{bytes_eq};
-ghost use Rattle.go_ast.specs.Lexical.{is_letter, is_letter_or_digit, is_among, keywords};
-ghost use Rattle.go_scanner.specs.Shapes.{name_length, word_shape};
+ghost use Rattle.std.specs.Prelude.{◌≡◌, [], ◌∷◌, codes, length};
+ghost use Rattle.std.specs.Str.{bytes_eq, chars};
+ghost use Rattle.std.specs.Char.{is_ascii_alphanumeric};
+ghost use Rattle.go_chars.specs.Identifiers.{is_among, is_letter_or_digit};
+ghost use Rattle.go_scanner.specs.Shapes.{begins_word, word_at, word_shape};
 
 use crate::shape::Shape;
 use go_ast::TokenKind;
+use go_chars::{is_digit, is_keyword, is_letter};
 
-/// Whether an identifier may begin with a byte.
-pub fn is_letter(byte: u8) -> bool
-    ensures { result ≡ is_letter byte }
+/// Whether a character is a letter or a digit.
+fn is_letter_or_digit(c: char) -> bool
+    ensures { result ≡ is_letter_or_digit c }
 {
-    byte == b'_' || byte.is_ascii_alphabetic()
+    is_letter(c) || is_digit(c)
 }
 
-/// Whether an identifier may go on with a byte.
-fn is_letter_or_digit(byte: u8) -> bool
-    ensures { result ≡ is_letter_or_digit byte }
+/// How many bytes the letters and digits at the front have.
+pub fn word_length(text: &str) -> usize
+    ensures { result ≡ length (word_at text.now) }
 {
-    is_letter(byte) || byte.is_ascii_digit()
-}
-
-/// How many letters and digits stand at the front.
-pub fn name_length(rest: &[u8]) -> usize
-    ensures { result ≡ name_length rest.now }
-{
-    for (i, byte) in rest.iter().enumerate() {
-        if !is_letter_or_digit(*byte) {
-            return i;
+    let bytes = text.as_bytes();
+    let mut end = 0;
+    while end < bytes.len() {
+        if bytes[end].is_ascii() {
+            if !is_letter_or_digit(bytes[end] as char) {
+                break;
+            }
+            end += 1;
+        } else {
+            let Some(c) = text[end..].chars().next() else {
+                break;
+            };
+            if !is_letter_or_digit(c) {
+                break;
+            }
+            end += c.len_utf8();
         }
     }
-    rest.len()
+    end
+}
+
+/// Whether the first character is a letter.
+#[tactic(auto, unfolding(crate::specs::Shapes::begins_word))]
+pub fn begins_word(text: &str) -> bool
+    ensures { result ≡ begins_word text.now }
+{
+    match text.chars().next() {
+        None => false,
+        Some(first) => is_letter(first),
+    }
 }
 
 /// Whether a word is this one.
@@ -40,34 +58,6 @@ pub fn is(word: &[u8], known: &str) -> bool
     ensures { result ≡ bytes_eq word.now known.now }
 {
     word == known.as_bytes()
-}
-
-/// Whether a word is one of the 25 keywords (Go specification, "Keywords").
-#[tactic(auto, using(crate::proofs::Words::keywords_by_length))]
-pub fn is_keyword(word: &[u8]) -> bool
-    ensures { result ≡ is_among keywords word.now }
-{
-    match word.len() {
-        2 => is(word, "go") || is(word, "if"),
-        3 => is(word, "for") || is(word, "map") || is(word, "var"),
-        4 => is(word, "case")
-            || is(word, "chan")
-            || is(word, "else")
-            || is(word, "func")
-            || is(word, "goto")
-            || is(word, "type"),
-        5 => is(word, "break") || is(word, "const") || is(word, "defer") || is(word, "range"),
-        6 => is(word, "import")
-            || is(word, "return")
-            || is(word, "select")
-            || is(word, "struct")
-            || is(word, "switch"),
-        7 => is(word, "default") || is(word, "package"),
-        8 => is(word, "continue"),
-        9 => is(word, "interface"),
-        11 => is(word, "fallthrough"),
-        _ => false,
-    }
 }
 
 /// Whether a keyword takes a semicolon at the end of a line.
@@ -87,4 +77,12 @@ pub fn word_shape(word: &[u8]) -> Shape
     } else {
         Shape::Token(TokenKind::Ident, true, word.len())
     }
+}
+
+/// The word at the front.
+pub fn front_word_shape(text: &str) -> Shape
+    ensures { result ≡ word_shape (word_at text.now) }
+{
+    let length = word_length(text);
+    word_shape(&text.as_bytes()[..length])
 }

@@ -5,7 +5,8 @@ use Rattle.std.proofs.lemmas.Bool.{and_parts, and_from, and_left, and_right, lt-
 use Rattle.std.proofs.lemmas.List.{get_or_at, get_or_append_left, get_or-take, get_or_push, take_all, take-take, take_more, drop_more, drop_all, length-take-le}
 use Rattle.std.proofs.lemmas.List.Elements.{All-take}
 use Rattle.std.proofs.lemmas.List.Sums.{prefix_len-le-length, prefix_len_stops, AllPass-from_list_all, list_all-from_AllPass}
-use Rattle.go_ast.specs.Lexical.{IsLineComment, EndsComment, newline, carriage_return}
+use Rattle.go_ast.specs.Characters.{newline, carriage_return}
+use Rattle.go_ast.specs.Lexical.{IsLineComment, EndsComment}
 use Rattle.go_scanner.specs.Shapes.{comment_length}
 use Rattle.go_scanner.proofs.Standing.Lists.{split_at, prefix_len_past, prefix_len_until, prefix_len_whole, list_all-take_prefix_len}
 

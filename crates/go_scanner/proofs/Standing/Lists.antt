@@ -1,9 +1,12 @@
 -- Facts on an `if`, on fronts of lists, and on characters of ASCII.
-use Rattle.std.proofs.Common.{◌≡◌, ℕ, ◌+◌, ◌≤◌, Bool, true, false, cond, List, [], ◌∷◌, ◌++◌, length, take, drop, nat_lt, encode_utf8_all, sym, ap, ap₂, ◌∙◌, refl, inl, inr, one-add, zero-add, add-zero, arith, take-append-drop, length-append}
-use Rattle.std.specs.List.{list_all, prefix_len}
-use Rattle.std.proofs.lemmas.List.{take_at, append_cancel_left}
-use Rattle.std.proofs.lemmas.Bool.{and_parts, and_from, ltb-true, cases_Bool}
+use Rattle.std.proofs.Common.{◌≡◌, ℕ, ◌+◌, ◌<◌, ◌≤◌, Bool, true, false, not, cond, ◌&&◌, List, [], ◌∷◌, ◌++◌, length, take, drop, get_or, nat_lt, IsUtf8, encode_utf8_all, sym, ap, ap₂, ◌∙◌, refl, inl, inr, one-add, zero-add, add-zero, arith, take-append-drop, length-append}
+use Rattle.std.specs.List.{list_all, prefix_len, position_or_len, take_while}
+use Rattle.std.proofs.lemmas.List.{take_at, append_cancel_left, drop_more}
+use Rattle.std.proofs.lemmas.Bool.{and_parts, and_from, ltb-true, cases_Bool, not_from_true, not-false}
+use Rattle.std.proofs.lemmas.List.Sums.{prefix_len_stops}
 use Rattle.std.proofs.lemmas.Str.{encode_ascii}
+use Rattle.std.specs.Str.{all_scalars}
+use lib.Utf8.{scalar, low_scalar}
 
 -- a fact from the value of an `if`, by its branches
 pub by_if : {X P : Type 0} (t : Bool) (x y z : X) → cond t x y ≡ z → (t ≡ true → x ≡ z → P) → (t ≡ false → y ≡ z → P) → P
@@ -70,3 +73,35 @@ encode_utf8_all-ascii [] h = refl
 encode_utf8_all-ascii (c ∷ cs) h =
     let parts = and_parts (is_ascii c) (list_all is_ascii cs) h in
     ap₂ ◌++◌ (encode_ascii c (ltb-true c 128 parts.0)) (encode_utf8_all-ascii cs parts.1)
+
+pub ascii_scalars : (characters : List ℕ) → list_all is_ascii characters ≡ true → all_scalars characters ≡ true
+ascii_scalars [] h = refl
+ascii_scalars (c ∷ cs) h =
+    let parts = and_parts (is_ascii c) (list_all is_ascii cs) h in
+    and_from (scalar c) (all_scalars cs) (low_scalar c (omega (arith, ltb-true c 128 parts.0))) (ascii_scalars cs parts.1)
+
+-- bytes of ASCII are UTF-8
+pub ascii_utf8 : (bytes : List ℕ) → list_all is_ascii bytes ≡ true → IsUtf8 bytes
+ascii_utf8 bytes h = (bytes, (ascii_scalars bytes h, encode_utf8_all-ascii bytes h))
+
+module _ (p : ℕ → Bool) where
+  -- the place of the first element that passes, by what stands before it
+  pub place_until : (front : List ℕ) (x : ℕ) (rest : List ℕ) → list_all (λ y. not (p y)) front ≡ true → p x ≡ true → position_or_len p (front ++ x ∷ rest) ≡ length front
+  place_until front x rest h passes = prefix_len_until (λ y. not (p y)) front x rest h (not_from_true (p x) passes)
+
+  pub place_whole : (front : List ℕ) → list_all (λ y. not (p y)) front ≡ true → position_or_len p front ≡ length front
+  place_whole front h = prefix_len_whole (λ y. not (p y)) front h
+
+  pub place_passes : (xs : List ℕ) → position_or_len p xs < length xs → p (get_or xs (position_or_len p xs) 0) ≡ true
+  place_passes xs within = not-false _ (prefix_len_stops (λ y. not (p y)) xs 0 within)
+
+  -- the front that passes goes on past a front that does
+  pub take_while-past : (front rest : List ℕ) → list_all p front ≡ true → take_while p (front ++ rest) ≡ front ++ take_while p rest
+  take_while-past [] rest h = refl
+  take_while-past (x ∷ xs) rest h =
+      let parts = and_parts (p x) (list_all p xs) h in
+      rw (parts.0, one-add) (ap (λ l. x ∷ l) (take_while-past xs rest parts.1))
+
+-- a list around one of its places
+pub around : (n : ℕ) (xs : List ℕ) → n < length xs → xs ≡ take n xs ++ get_or xs n 0 ∷ drop (n + 1) xs
+around n xs within = split_at n xs ∙ ap (λ l. take n xs ++ l) (drop_more xs n 0 within)

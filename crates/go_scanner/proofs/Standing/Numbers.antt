@@ -1,42 +1,15 @@
 -- Where the run of a number begins, the program and the definition find the same number.
-use Rattle.std.proofs.Common.{◌≡◌, ℕ, Bool, true, ◌&&◌, ◌||◌, not, List, [], ◌∷◌, length, ◌==◌, Some, ap, refl, inl, inr}
-use Rattle.std.specs.List.{list_all}
-use Rattle.std.specs.Char.{is_ascii_digit}
-use Rattle.std.proofs.lemmas.Bool.{and_parts, and_from, or_cases, or_left, or_right, eqb-true, eq-eqb, eqb-false, not-true, not_from_false, cases_Bool, false≢true}
-use Rattle.std.proofs.lemmas.List.{nil_from_length}
-use Rattle.std.proofs.lemmas.List.Sums.{AllPass-from_list_all, list_all-from_AllPass}
-use Rattle.go_ast.specs.Lexical.{Spelling, identifier, keyword, integer, operator, text, semicolon, spelled, Begins, IsDecimal, digit_zero, goes_on, run_after, number_run, is_hexadecimal, begins_number}
+use Rattle.std.proofs.Common.{◌≡◌, ℕ, Bool, true, List, [], ◌∷◌, ◌++◌, length, Option, Some, None, option_map, ap, sym, ◌∙◌, refl, inl, inr}
+use Rattle.std.proofs.lemmas.Bool.{cases_Bool, false≢true}
+use Rattle.go_ast.specs.declared.token.TokenKind.{TokenKind}
+use Rattle.go_ast.specs.Characters.{Begins}
+use Rattle.go_ast.specs.Lexical.{Spelling, identifier, keyword, operator, integer, float, imaginary, rune, text, raw_text, semicolon, spelled, print_spelling, goes_on, run_after, number_run, is_hexadecimal, begins_number, is_number}
+use Rattle.go_ast.specs.Reading.{kind_of}
 use Rattle.go_scanner.specs.declared.shape.Shape.{Shape}
-use Rattle.go_scanner.specs.Shapes.{shape_of, is_decimal, number_shape}
-use Rattle.go_scanner.proofs.Standing.Lists.{by_if}
+use Rattle.go_scanner.specs.Shapes.{shape_of, number_of, number_shape}
+use Rattle.go_scanner.specs.NumberBytes.{number_kind}
 use Rattle.go_scanner.proofs.Standing.Fronts.{SpelledAt, SpelledAs, whole_run, extent_of-run}
-
--- a zero stands alone
-alone_from_test : (d : ℕ) (ds : List ℕ) → (not (d == digit_zero) || length ds == 0) ≡ true → d ≡ digit_zero → ds ≡ []
-alone_from_test d ds h zero = elim (or_cases (not (d == digit_zero)) (length ds == 0) h) [
-  | inl e ↦ absurd (eqb-false d digit_zero (not-true (d == digit_zero) e) zero)
-  | inr e ↦ nil_from_length ds (eqb-true (length ds) 0 e)
-]
-
-test_from_alone : (d : ℕ) (ds : List ℕ) → (d ≡ digit_zero → ds ≡ []) → (not (d == digit_zero) || length ds == 0) ≡ true
-test_from_alone d ds alone = elim (cases_Bool (d == digit_zero)) [
-  | inl e ↦ or_right (not (d == digit_zero)) (length ds == 0) (eq-eqb (length ds) 0 (ap length (alone (eqb-true d digit_zero e))))
-  | inr e ↦ or_left (not (d == digit_zero)) (length ds == 0) (not_from_false (d == digit_zero) e)
-]
-
-IsDecimal-is_decimal : (digits : List ℕ) → is_decimal digits ≡ true → IsDecimal digits
-IsDecimal-is_decimal [] h = h
-IsDecimal-is_decimal (d ∷ ds) h =
-    let parts = and_parts (is_ascii_digit d && list_all is_ascii_digit ds) (not (d == digit_zero) || length ds == 0) h in
-    let digits = and_parts (is_ascii_digit d) (list_all is_ascii_digit ds) parts.0 in
-    (digits.0, AllPass-from_list_all is_ascii_digit ds digits.1, λ zero. alone_from_test d ds parts.1 zero)
-
-is_decimal-IsDecimal : (digits : List ℕ) → IsDecimal digits → is_decimal digits ≡ true
-is_decimal-IsDecimal [] h = h
-is_decimal-IsDecimal (d ∷ ds) h =
-    and_from (is_ascii_digit d && list_all is_ascii_digit ds) (not (d == digit_zero) || length ds == 0)
-    (and_from (is_ascii_digit d) (list_all is_ascii_digit ds) h.0 (list_all-from_AllPass is_ascii_digit ds h.1))
-    (test_from_alone d ds h.2)
+use Rattle.go_scanner.proofs.Standing.Floats.{number_complete, NumberAs, number_sound}
 
 -- the run is a front of the bytes
 run_after-front : (hexadecimal : Bool) (before : ℕ) (bytes : List ℕ) → Begins bytes (run_after hexadecimal before bytes)
@@ -55,30 +28,41 @@ number_run-front (b ∷ bytes) =
     let more = run_after-front (is_hexadecimal (b ∷ bytes)) b bytes in
     (more.0, ap (λ x. b ∷ x) more.1)
 
-number_shape-decimal : (bytes digits : List ℕ) → number_run bytes ≡ digits → is_decimal digits ≡ true → number_shape bytes ≡ Some (shape_of (spelled (integer digits)))
+shape_of-number : (spelling : Spelling) → is_number spelling ≡ true → shape_of (spelled spelling) ≡ number_of (length (print_spelling spelling)) (kind_of spelling)
+shape_of-number (integer literal) n = refl
+shape_of-number (float literal) n = refl
+shape_of-number (imaginary literal) n = refl
+shape_of-number _ n = absurd (false≢true n)
+
+number_shape-kind : (bytes run : List ℕ) (kind : TokenKind) → number_run bytes ≡ run → number_kind run ≡ Some kind → number_shape bytes ≡ Some (number_of (length run) kind)
 unfolding number_shape
-number_shape-decimal bytes digits run decimal = rw run (rw decimal refl)
+number_shape-kind bytes run kind whole h = rw (whole, h) refl
 
 pub number_found : (bytes : List ℕ) (spelling : Spelling) (after : List ℕ) → begins_number bytes ≡ true → SpelledAt bytes spelling after → number_shape bytes ≡ Some (shape_of (spelled spelling))
-number_found bytes (integer digits) after number h = number_shape-decimal bytes digits (whole_run bytes (integer digits) after number h).1 (is_decimal-IsDecimal digits h.valid)
-number_found bytes (identifier characters) after number h = absurd (false≢true (whole_run bytes (identifier characters) after number h).0)
-number_found bytes (keyword word) after number h = absurd (false≢true (whole_run bytes (keyword word) after number h).0)
-number_found bytes (operator mark) after number h = absurd (false≢true (whole_run bytes (operator mark) after number h).0)
-number_found bytes (text elements) after number h = absurd (false≢true (whole_run bytes (text elements) after number h).0)
-number_found bytes semicolon after number h = absurd (false≢true (whole_run bytes semicolon after number h).0)
+number_found bytes spelling after begins h =
+    let run = whole_run bytes spelling after begins h in
+    number_shape-kind bytes (print_spelling spelling) (kind_of spelling) run.1 (number_complete spelling h.valid run.0) ∙ ap Some (sym (shape_of-number spelling run.0))
+
+map_some : (o : Option TokenKind) (n : ℕ) (shape : Shape) → option_map (number_of n) o ≡ Some shape → (kind : TokenKind) × (o ≡ Some kind) × (number_of n kind ≡ shape)
+map_some None n shape h = cc
+map_some (Some kind) n shape h = (kind, refl, cc)
+
+number_shape-cases : (bytes : List ℕ) (shape : Shape) → number_shape bytes ≡ Some shape → (kind : TokenKind) × (number_kind (number_run bytes) ≡ Some kind) × (number_of (length (number_run bytes)) kind ≡ shape)
+unfolding number_shape
+number_shape-cases bytes shape h = map_some (number_kind (number_run bytes)) (length (number_run bytes)) shape h
 
 pub number_stands : (bytes : List ℕ) (shape : Shape) → begins_number bytes ≡ true → number_shape bytes ≡ Some shape → SpelledAs bytes shape
-unfolding number_shape
-number_stands bytes shape number found =
-    by_if (is_decimal (number_run bytes)) _ _ _ found
-    (λ decimal e. record {
-      spelling = integer (number_run bytes);
-      after = (number_run-front bytes).0;
+number_stands bytes shape begins found =
+    let kind = number_shape-cases bytes shape found in
+    let number = number_sound (number_run bytes) kind.0 kind.1 in
+    let front = number_run-front bytes in
+    record {
+      spelling = number.spelling;
+      after = front.0;
       stands = record {
-        split = (number_run-front bytes).1;
-        valid = IsDecimal-is_decimal (number_run bytes) decimal;
-        extent = extent_of-run bytes (integer (number_run bytes)) number (refl, refl);
+        split = front.1 ∙ ap (λ l. l ++ front.0) (sym number.printed);
+        valid = number.valid;
+        extent = extent_of-run bytes number.spelling begins (number.number, sym number.printed);
       };
-      same = cc;
-    })
-    (λ other e. cc)
+      same = shape_of-number number.spelling number.number ∙ ap (λ l. number_of (length l) (kind_of number.spelling)) number.printed ∙ ap (number_of (length (number_run bytes))) number.same ∙ kind.2;
+    }

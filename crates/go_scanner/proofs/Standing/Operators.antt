@@ -2,7 +2,9 @@
 use Rattle.std.proofs.Common.{◌≡◌, ℕ, ◌≤◌, ◌<◌, true, false, List, ◌∷◌, ◌++◌, length, take, drop, Some, sym, ap, ◌∙◌, subst, refl, inl, inr, arith, length-take}
 use Rattle.std.proofs.lemmas.Bool.{cases_Bool, both_ways}
 use Rattle.std.proofs.lemmas.List.{take_at}
-use Rattle.go_ast.specs.Lexical.{Spelling, identifier, keyword, integer, operator, text, semicolon, spelled, Begins, print_spelling, IsSpelling, IsLongest, is_among, operators, begins_number}
+use Rattle.go_chars.specs.Identifiers.{is_among}
+use Rattle.go_ast.specs.Characters.{Begins}
+use Rattle.go_ast.specs.Lexical.{Spelling, identifier, keyword, operator, integer, float, imaginary, rune, text, raw_text, semicolon, spelled, print_spelling, IsSpelling, IsLongest, operators, begins_number}
 use Rattle.go_scanner.specs.declared.shape.Shape.{Shape}
 use Rattle.go_scanner.specs.Shapes.{shape_of, mark_shape, operator_shape}
 use Rattle.go_scanner.proofs.Standing.Lists.{by_if, same_fronts, front_within, split_at}
@@ -20,9 +22,13 @@ operator_of : (spelling : Spelling) → leads spelling ≡ marks → IsSpelling 
 operator_of (operator mark) lead h = record { mark = mark; among = h; printed = refl; shape = refl }
 operator_of (identifier characters) lead h = cc
 operator_of (keyword word) lead h = cc
-operator_of (integer digits) lead h = cc
 operator_of (text elements) lead h = cc
+operator_of (rune element) lead h = cc
+operator_of (raw_text content) lead h = cc
 operator_of semicolon lead h = cc
+operator_of (integer literal) lead h = cc
+operator_of (float literal) lead h = cc
+operator_of (imaginary literal) lead h = cc
 
 -- an operator has one to three bytes
 length-operator : (mark : List ℕ) → is_among operators mark ≡ true → (0 < length mark) × (length mark ≤ 3)
@@ -78,10 +84,10 @@ module _ (bytes : List ℕ) where
               ]
         ]
 
-module _ (b : ℕ) (rest : List ℕ) (mark : lead_of b ≡ marks) (number : begins_number (b ∷ rest) ≡ false) where
+module _ (b : ℕ) (rest : List ℕ) (mark : lead_of (b ∷ rest) ≡ marks) (number : begins_number (b ∷ rest) ≡ false) where
   -- a spelling that begins with such a byte is an operator
   begins_operator : (spelling : Spelling) → IsSpelling spelling → Begins (b ∷ rest) (print_spelling spelling) → Operator spelling
-  begins_operator spelling valid begins = operator_of spelling (sym (lead_of-begins b rest spelling valid begins) ∙ mark) valid
+  begins_operator spelling valid begins = operator_of spelling (sym (lead_of-begins (b ∷ rest) spelling number valid begins) ∙ mark) valid
 
   pub operator_found : (spelling : Spelling) (after : List ℕ) → SpelledAt (b ∷ rest) spelling after → operator_shape (b ∷ rest) ≡ Some (shape_of (spelled spelling))
   operator_found spelling after h =

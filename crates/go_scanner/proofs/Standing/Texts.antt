@@ -1,143 +1,260 @@
--- Where a quote begins, the program and the definition find the same text.
-use Rattle.std.proofs.Common.{◌≡◌, ℕ, ◌+◌, ◌<◌, true, false, ◌&&◌, ◌||◌, not, List, [], ◌∷◌, ◌++◌, length, take, drop, slice_index, nat_lt, ◌==◌, All, Some, encode_utf8_all, sym, ap, ◌∙◌, refl, arith, length-append, append_assoc}
-use Rattle.std.specs.List.{list_all, prefix_len}
-use Rattle.std.proofs.lemmas.Bool.{and_parts, and_from, lt-ltb, ltb-true, eq-eqb, eqb-true}
-use Rattle.std.proofs.lemmas.List.{get_or_at, drop_more, length-take-le}
-use Rattle.std.proofs.lemmas.List.Elements.{All-head, All-tail, All-nil, All-cons}
+-- Where a quote begins, the program and the definition find the same text, rune or raw text.
+use Rattle.std.proofs.Common.{◌≡◌, ◌==◌, ℕ, ◌+◌, ◌-◌, ◌≤◌, ◌<◌, Bool, true, false, ◌&&◌, not, List, [], ◌∷◌, ◌++◌, length, take, drop, get_or, slice_index, nat_lt, Option, Some, None, option_map, IsUtf8, sym, ap, ◌∙◌, subst, refl, inl, inr, arith, length-append, append_assoc}
+use Rattle.std.specs.List.{list_all}
+use Rattle.std.proofs.lemmas.Bool.{and_parts, and_from, lt-ltb, ltb-true, eq-eqb, eqb-true, cases_Bool}
+use Rattle.std.proofs.lemmas.List.{get_or_at, get_or_past, drop_more, length-take-le, append_cancel_left}
 use Rattle.std.proofs.lemmas.List.Sums.{prefix_len-le-length}
-use Rattle.go_ast.specs.Lexical.{Spelling, identifier, keyword, integer, operator, text, semicolon, spelled, TextElement, character, text_characters, is_text_character, IsTextElement, Begins, print_spelling, IsSpelling, double_quote, backslash, newline, begins_number}
-use Rattle.go_ast.specs.declared.token.TokenKind.TheVariants.{Text}
+use Rattle.go_ast.specs.declared.token.TokenKind.TheVariants.{Rune, Text}
+use Rattle.go_ast.specs.Characters.{Begins, double_quote, single_quote, back_quote}
+use Rattle.go_ast.specs.Texts.{Element, print_element, print_elements, is_element}
+use Rattle.go_ast.specs.Lexical.{Spelling, identifier, keyword, operator, integer, float, imaginary, rune, text, raw_text, semicolon, spelled, print_spelling, IsSpelling, is_raw, begins_number}
 use Rattle.go_scanner.specs.declared.shape.Shape.{Shape}
 use Rattle.go_scanner.specs.declared.shape.Shape.TheVariants.{Token}
-use Rattle.go_scanner.specs.Shapes.{shape_of, text_shape}
-use Rattle.go_scanner.proofs.Standing.Lists.{by_if, split_at, prefix_len_until, list_all-take_prefix_len, list_all-weaker, is_ascii, encode_utf8_all-ascii}
-use Rattle.go_scanner.proofs.Standing.FirstBytes.{texts, leads, lead_of-begins}
+use Rattle.go_scanner.specs.Shapes.{shape_of, text_of_length, text_shape, rune_shape, raw_shape}
+use Rattle.go_scanner.specs.TextBytes.{text_length, rune_length, raw_length}
+use Rattle.go_scanner.proofs.Standing.Lists.{by_if, around, split_at, place_until, place_passes, list_all-take_prefix_len}
+use Rattle.go_scanner.proofs.Standing.Characters.{after_ascii_utf8}
+use Rattle.go_scanner.proofs.Standing.FirstBytes.{texts, runes, raws, leads, lead_of, lead_of-ascii, lead_of-begins}
 use Rattle.go_scanner.proofs.Standing.Fronts.{SpelledAt, SpelledAs, SpelledAs-Some, extent_of-longest}
+use Rattle.go_scanner.proofs.Standing.Quoted.{text_complete, text_sound, TextAt, rune_complete, rune_sound, ElementAt, element_some}
 
-all_text_characters : (elements : List TextElement) → All IsTextElement elements → list_all is_text_character (text_characters elements) ≡ true
-all_text_characters [] h = refl
-all_text_characters (character c ∷ elements) h =
-    and_from (is_text_character c) (list_all is_text_character (text_characters elements))
-    (All-head IsTextElement (character c) elements h) (all_text_characters elements (All-tail IsTextElement (character c) elements h))
+-- what stands between two marks, and behind them
+between : (mark : ℕ) (rest inner after : List ℕ) → mark ∷ rest ≡ (mark ∷ inner ++ mark ∷ []) ++ after → rest ≡ inner ++ mark ∷ after
+between mark rest inner after split =
+    let tail : rest ≡ (inner ++ mark ∷ []) ++ after = append_cancel_left (mark ∷ []) rest ((inner ++ mark ∷ []) ++ after) split in
+    tail ∙ append_assoc inner (mark ∷ []) after
 
--- the text of these characters
-elements_of : List ℕ → List TextElement
-elements_of [] = []
-elements_of (c ∷ cs) = character c ∷ elements_of cs
+around_marks : (mark : ℕ) (inner after : List ℕ) → mark ∷ inner ++ mark ∷ after ≡ (mark ∷ inner ++ mark ∷ []) ++ after
+around_marks mark inner after = ap (λ l. mark ∷ l) (sym (append_assoc inner (mark ∷ []) after))
 
-text_characters-elements_of : (characters : List ℕ) → text_characters (elements_of characters) ≡ characters
-unfolding elements_of
-text_characters-elements_of [] = refl
-text_characters-elements_of (c ∷ cs) = ap (λ x. c ∷ x) (text_characters-elements_of cs)
+length-marks : (mark : ℕ) (inner : List ℕ) → length (mark ∷ inner ++ mark ∷ []) ≡ length inner + 2
+length-marks mark inner = omega (arith, length-append inner (mark ∷ []))
 
-All-elements_of : (characters : List ℕ) → list_all is_text_character characters ≡ true → All IsTextElement (elements_of characters)
-unfolding elements_of
-All-elements_of [] h = All-nil IsTextElement
-All-elements_of (c ∷ cs) h =
-    let parts = and_parts (is_text_character c) (list_all is_text_character cs) h in
-    All-cons IsTextElement (character c) (elements_of cs) parts.0 (All-elements_of cs parts.1)
-
-text_bytes : (characters : List ℕ) → list_all is_text_character characters ≡ true → encode_utf8_all characters ≡ characters
-text_bytes characters h = encode_utf8_all-ascii characters
-    (list_all-weaker is_text_character is_ascii (λ c e. (and_parts (nat_lt c 128) (not (c == double_quote || c == backslash || c == newline)) e).0) characters h)
-
--- a spelling that is a text of these characters
+-- texts
 record Quoted (spelling : Spelling) : Type 0 where
-  characters : List ℕ
-  all : list_all is_text_character characters ≡ true
-  printed : print_spelling spelling ≡ double_quote ∷ characters ++ double_quote ∷ []
-  shape : shape_of (spelled spelling) ≡ Token Text true (length characters + 2)
-
-length-quoted : (characters : List ℕ) → length (double_quote ∷ characters ++ double_quote ∷ []) ≡ length characters + 2
-length-quoted characters = omega (arith, length-append characters (double_quote ∷ []))
-
-printed_text : (elements : List TextElement) (characters : List ℕ) → text_characters elements ≡ characters → list_all is_text_character characters ≡ true → print_spelling (text elements) ≡ double_quote ∷ characters ++ double_quote ∷ []
-printed_text elements characters e all =
-    let bytes : encode_utf8_all (text_characters elements) ≡ characters = ap encode_utf8_all e ∙ text_bytes characters all in
-    ap (λ x. double_quote ∷ x ++ double_quote ∷ []) bytes
-
-Quoted-text : (elements : List TextElement) (characters : List ℕ) → text_characters elements ≡ characters → list_all is_text_character characters ≡ true → Quoted (text elements)
-Quoted-text elements characters e all =
-    let printed = printed_text elements characters e all in
-    record {
-      characters = characters;
-      all = all;
-      printed = printed;
-      shape = ap (λ x. Token Text true (length x)) printed ∙ ap (λ n. Token Text true n) (length-quoted characters);
-    }
+  elements : List Element
+  valid : list_all (is_element double_quote) elements ≡ true
+  printed : print_spelling spelling ≡ double_quote ∷ print_elements elements ++ double_quote ∷ []
+  shape : shape_of (spelled spelling) ≡ Token Text true (length (print_spelling spelling))
 
 quoted_of : (spelling : Spelling) → leads spelling ≡ texts → IsSpelling spelling → Quoted spelling
-quoted_of (text elements) lead h = Quoted-text elements (text_characters elements) refl (all_text_characters elements h)
+quoted_of (text elements) lead h = record { elements = elements; valid = h; printed = refl; shape = refl }
 quoted_of (identifier characters) lead h = cc
 quoted_of (keyword word) lead h = cc
-quoted_of (integer digits) lead h = cc
 quoted_of (operator mark) lead h = cc
+quoted_of (integer literal) lead h = cc
+quoted_of (float literal) lead h = cc
+quoted_of (imaginary literal) lead h = cc
+quoted_of (rune element) lead h = cc
+quoted_of (raw_text content) lead h = cc
 quoted_of semicolon lead h = cc
 
--- what follows the opening quote of a text
-after_quote : (rest : List ℕ) (spelling : Spelling) (after : List ℕ) (q : Quoted spelling) → double_quote ∷ rest ≡ print_spelling spelling ++ after → rest ≡ q.characters ++ double_quote ∷ after
-after_quote rest spelling after q split =
-    let e : double_quote ∷ rest ≡ double_quote ∷ ((q.characters ++ double_quote ∷ []) ++ after) = split ∙ ap (λ x. x ++ after) q.printed in
-    let tail : rest ≡ (q.characters ++ double_quote ∷ []) ++ after = cc in
-    tail ∙ append_assoc q.characters (double_quote ∷ []) after
-
-length-characters : (rest : List ℕ) (spelling : Spelling) (after : List ℕ) (q : Quoted spelling) → double_quote ∷ rest ≡ print_spelling spelling ++ after → prefix_len is_text_character rest ≡ length q.characters
-length-characters rest spelling after q split =
-    ap (prefix_len is_text_character) (after_quote rest spelling after q split) ∙ prefix_len_until is_text_character q.characters double_quote after q.all refl
-
-closed_shape : (rest : List ℕ) → prefix_len is_text_character rest < length rest → slice_index rest (prefix_len is_text_character rest) ≡ double_quote
-    → text_shape rest ≡ Some (Token Text true (prefix_len is_text_character rest + 2))
+text_shape-length : (rest : List ℕ) (n : ℕ) → text_length double_quote 0 rest ≡ Some n → text_shape rest ≡ Some (Token Text true (n + 1))
 unfolding text_shape
-closed_shape rest within quote =
-    rw (lt-ltb (prefix_len is_text_character rest) (length rest) within, eq-eqb (slice_index rest (prefix_len is_text_character rest)) double_quote quote) refl
+text_shape-length rest n h = rw h refl
+
+length_cases : (found : Option ℕ) (shape : Shape) → option_map text_of_length found ≡ Some shape → (n : ℕ) × (found ≡ Some n) × (Token Text true (n + 1) ≡ shape)
+length_cases None shape h = cc
+length_cases (Some n) shape h = (n, refl, cc)
+
+text_shape-cases : (rest : List ℕ) (shape : Shape) → text_shape rest ≡ Some shape → (n : ℕ) × (text_length double_quote 0 rest ≡ Some n) × (Token Text true (n + 1) ≡ shape)
+unfolding text_shape
+text_shape-cases rest shape h = length_cases (text_length double_quote 0 rest) shape h
 
 module _ (rest : List ℕ) (number : begins_number (double_quote ∷ rest) ≡ false) where
   begins_text : (spelling : Spelling) → IsSpelling spelling → Begins (double_quote ∷ rest) (print_spelling spelling) → Quoted spelling
-  begins_text spelling valid begins = quoted_of spelling (sym (lead_of-begins double_quote rest spelling valid begins)) valid
+  begins_text spelling valid begins =
+      quoted_of spelling (sym (lead_of-begins (double_quote ∷ rest) spelling number valid begins) ∙ lead_of-ascii double_quote rest (omega arith)) valid
+
+  -- how long a text at the front is
+  text_long : (spelling : Spelling) (after : List ℕ) → IsSpelling spelling → double_quote ∷ rest ≡ print_spelling spelling ++ after → text_length double_quote 0 rest ≡ Some (length (print_spelling spelling) - 1)
+  text_long spelling after valid split =
+      let q = begins_text spelling valid (after, split) in
+      let inner = print_elements q.elements in
+      let follows = between double_quote rest inner after (split ∙ ap (λ l. l ++ after) q.printed) in
+      ap (text_length double_quote 0) follows ∙ text_complete double_quote q.elements after refl q.valid
+      ∙ ap Some (omega (arith, ap length q.printed, length-marks double_quote inner))
 
   pub text_found : (spelling : Spelling) (after : List ℕ) → SpelledAt (double_quote ∷ rest) spelling after → text_shape rest ≡ Some (shape_of (spelled spelling))
   text_found spelling after h =
       let q = begins_text spelling h.valid (after, h.split) in
-      let split = after_quote rest spelling after q h.split in
-      let n : prefix_len is_text_character rest ≡ length q.characters = length-characters rest spelling after q h.split in
-      let within : prefix_len is_text_character rest < length rest = omega (arith, ap length split, length-append q.characters (double_quote ∷ after)) in
-      let quote : slice_index rest (prefix_len is_text_character rest) ≡ double_quote =
-      ap (λ x. slice_index x (prefix_len is_text_character rest)) split ∙ get_or_at q.characters double_quote after 0 (prefix_len is_text_character rest) (sym n) in
-      closed_shape rest within quote ∙ ap (λ x. Some (Token Text true (x + 2))) n ∙ ap Some (sym q.shape)
+      let size : length (print_spelling spelling) - 1 + 1 ≡ length (print_spelling spelling) = omega (arith, ap length q.printed) in
+      text_shape-length rest (length (print_spelling spelling) - 1) (text_long spelling after h.valid h.split)
+      ∙ ap (λ n. Some (Token Text true n)) size ∙ ap Some (sym q.shape)
 
-  -- the text that the next quote closes
-  closed : prefix_len is_text_character rest < length rest → slice_index rest (prefix_len is_text_character rest) ≡ double_quote
-      → SpelledAs (double_quote ∷ rest) (Token Text true (prefix_len is_text_character rest + 2))
-  closed within quote =
-      let n = prefix_len is_text_character rest in
-      let characters = take n rest in
-      let after = drop (n + 1) rest in
-      let all = list_all-take_prefix_len is_text_character rest in
-      let printed = printed_text (elements_of characters) characters (text_characters-elements_of characters) all in
-      let follows : rest ≡ characters ++ double_quote ∷ after =
-      split_at n rest ∙ ap (λ x. characters ++ x) (drop_more rest n 0 within ∙ ap (λ x. x ∷ after) quote) in
-      let long : length (print_spelling (text (elements_of characters))) ≡ n + 2 =
-      ap length printed ∙ length-quoted characters ∙ ap (λ x. x + 2) (length-take-le n rest (prefix_len-le-length is_text_character rest)) in
+  pub text_stands : (shape : Shape) → IsUtf8 (double_quote ∷ rest) → text_shape rest ≡ Some shape → SpelledAs (double_quote ∷ rest) shape
+  text_stands shape utf8 found =
+      let long = text_shape-cases rest shape found in
+      let n = long.0 in
+      let t = text_sound double_quote refl (length rest) rest n (omega arith) (after_ascii_utf8 [] double_quote rest (omega arith) utf8) long.1 in
+      let inner = print_elements t.elements in
+      let size : length (print_spelling (text t.elements)) ≡ n + 1 = omega (arith, length-marks double_quote inner, t.size) in
       record {
-        spelling = text (elements_of characters);
-        after = after;
+        spelling = text t.elements;
+        after = t.after;
         stands = record {
-          split = ap (λ x. double_quote ∷ x) (follows ∙ sym (append_assoc characters (double_quote ∷ []) after)) ∙ ap (λ x. x ++ after) (sym printed);
-          valid = All-elements_of characters all;
-          extent = extent_of-longest (double_quote ∷ rest) (text (elements_of characters)) number (λ other valid begins.
-              let q = begins_text other valid begins in
-              let same : n ≡ length q.characters = length-characters rest other begins.0 q begins.1 in
-              let longer : length (print_spelling other) ≡ length q.characters + 2 = ap length q.printed ∙ length-quoted q.characters in
+          split = ap (λ l. double_quote ∷ l) t.split ∙ around_marks double_quote inner t.after;
+          valid = t.valid;
+          extent = extent_of-longest (double_quote ∷ rest) (text t.elements) number (λ other valid begins.
+              let same : Some (length (print_spelling other) - 1) ≡ Some n = sym (text_long other begins.0 valid begins.1) ∙ long.1 in
+              let lengths : length (print_spelling other) - 1 ≡ n = cc in
               omega arith);
         };
-        same = ap (λ x. Token Text true x) long;
+        same = ap (λ k. Token Text true k) size ∙ long.2;
       }
 
-  pub text_stands : (shape : Shape) → text_shape rest ≡ Some shape → SpelledAs (double_quote ∷ rest) shape
-  unfolding text_shape
-  text_stands shape found =
-      by_if (nat_lt (prefix_len is_text_character rest) (length rest) && slice_index rest (prefix_len is_text_character rest) == double_quote) _ _ _ found
-      (λ test e.
-      let parts = and_parts (nat_lt (prefix_len is_text_character rest) (length rest)) (slice_index rest (prefix_len is_text_character rest) == double_quote) test in
-      SpelledAs-Some (double_quote ∷ rest) _ shape e (closed (ltb-true _ _ parts.0) (eqb-true _ _ parts.1)))
-      (λ test e. cc)
+-- runes
+record Rounded (spelling : Spelling) : Type 0 where
+  element : Element
+  valid : is_element single_quote element ≡ true
+  printed : print_spelling spelling ≡ single_quote ∷ print_element element ++ single_quote ∷ []
+  shape : shape_of (spelled spelling) ≡ Token Rune true (length (print_spelling spelling))
+
+rounded_of : (spelling : Spelling) → leads spelling ≡ runes → IsSpelling spelling → Rounded spelling
+rounded_of (rune element) lead h = record { element = element; valid = h; printed = refl; shape = refl }
+rounded_of (identifier characters) lead h = cc
+rounded_of (keyword word) lead h = cc
+rounded_of (operator mark) lead h = cc
+rounded_of (integer literal) lead h = cc
+rounded_of (float literal) lead h = cc
+rounded_of (imaginary literal) lead h = cc
+rounded_of (text elements) lead h = cc
+rounded_of (raw_text content) lead h = cc
+rounded_of semicolon lead h = cc
+
+rune_shape-length : (rest : List ℕ) (n : ℕ) → rune_length rest ≡ n → 0 < n → slice_index rest n ≡ single_quote → rune_shape rest ≡ Some (Token Rune true (n + 2))
+unfolding rune_shape
+rune_shape-length rest n long some closing =
+    let there : nat_lt 0 n ≡ true = lt-ltb 0 n some in
+    let closed : (slice_index rest n == single_quote) ≡ true = eq-eqb (slice_index rest n) single_quote closing in
+    rw (long, there, closed) refl
+
+rune_shape-cases : (rest : List ℕ) (shape : Shape) → rune_shape rest ≡ Some shape → (0 < rune_length rest) × (slice_index rest (rune_length rest) ≡ single_quote) × (Token Rune true (rune_length rest + 2) ≡ shape)
+unfolding rune_shape
+rune_shape-cases rest shape h = by_if (nat_lt 0 (rune_length rest) && slice_index rest (rune_length rest) == single_quote) _ _ _ h
+    (λ test e.
+    let parts = and_parts (nat_lt 0 (rune_length rest)) (slice_index rest (rune_length rest) == single_quote) test in
+    (ltb-true 0 (rune_length rest) parts.0, eqb-true (slice_index rest (rune_length rest)) single_quote parts.1, cc))
+    (λ test e. cc)
+
+-- the mark at a place stands there
+mark_at : (mark : ℕ) (front rest : List ℕ) → 0 < mark → slice_index (front ++ rest) (length front) ≡ mark → (after : List ℕ) × (rest ≡ mark ∷ after)
+mark_at mark front [] some h = absurd (omega (arith, sym (get_or_past (front ++ []) (length front) 0 (omega (arith, length-append front []))) ∙ h))
+mark_at mark front (x ∷ rest) some h = (rest, ap (λ y. y ∷ rest) (sym (get_or_at front x rest 0 (length front) refl) ∙ h))
+
+module _ (rest : List ℕ) (number : begins_number (single_quote ∷ rest) ≡ false) where
+  begins_rune : (spelling : Spelling) → IsSpelling spelling → Begins (single_quote ∷ rest) (print_spelling spelling) → Rounded spelling
+  begins_rune spelling valid begins =
+      rounded_of spelling (sym (lead_of-begins (single_quote ∷ rest) spelling number valid begins) ∙ lead_of-ascii single_quote rest (omega arith)) valid
+
+  -- how long a rune at the front is
+  rune_long : (spelling : Spelling) (after : List ℕ) → IsSpelling spelling → single_quote ∷ rest ≡ print_spelling spelling ++ after
+      → (rune_length rest + 2 ≡ length (print_spelling spelling)) × (slice_index rest (rune_length rest) ≡ single_quote) × (0 < rune_length rest)
+  rune_long spelling after valid split =
+      let r = begins_rune spelling valid (after, split) in
+      let inner = print_element r.element in
+      let follows = between single_quote rest inner after (split ∙ ap (λ l. l ++ after) r.printed) in
+      let long : rune_length rest ≡ length inner = ap rune_length follows ∙ rune_complete r.element (single_quote ∷ after) r.valid in (
+        omega (arith, ap length r.printed, length-marks single_quote inner),
+        ap (λ n. slice_index rest n) long ∙ ap (λ l. slice_index l (length inner)) follows ∙ get_or_at inner single_quote after 0 (length inner) refl,
+        omega (arith, element_some r.element),
+      )
+
+  pub rune_found : (spelling : Spelling) (after : List ℕ) → SpelledAt (single_quote ∷ rest) spelling after → rune_shape rest ≡ Some (shape_of (spelled spelling))
+  rune_found spelling after h =
+      let r = begins_rune spelling h.valid (after, h.split) in
+      let long = rune_long spelling after h.valid h.split in
+      rune_shape-length rest (rune_length rest) refl long.2 long.1 ∙ ap (λ n. Some (Token Rune true n)) long.0 ∙ ap Some (sym r.shape)
+
+  pub rune_stands : (shape : Shape) → IsUtf8 (single_quote ∷ rest) → rune_shape rest ≡ Some shape → SpelledAs (single_quote ∷ rest) shape
+  rune_stands shape utf8 found =
+      let test = rune_shape-cases rest shape found in
+      let e = rune_sound rest (after_ascii_utf8 [] single_quote rest (omega arith) utf8) test.0 in
+      let inner = print_element e.element in
+      let here : slice_index (inner ++ e.rest) (length inner) ≡ single_quote = ap (λ n. slice_index (inner ++ e.rest) n) e.size ∙ ap (λ l. slice_index l (rune_length rest)) (sym e.split) ∙ test.1 in
+      let closing = mark_at single_quote inner e.rest (omega arith) here in
+      let split : rest ≡ inner ++ single_quote ∷ closing.0 = e.split ∙ ap (λ l. inner ++ l) closing.1 in
+      let size : length (print_spelling (rune e.element)) ≡ rune_length rest + 2 = omega (arith, length-marks single_quote inner, e.size) in
+      record {
+        spelling = rune e.element;
+        after = closing.0;
+        stands = record {
+          split = ap (λ l. single_quote ∷ l) split ∙ around_marks single_quote inner closing.0;
+          valid = e.valid;
+          extent = extent_of-longest (single_quote ∷ rest) (rune e.element) number (λ other valid begins. omega (arith, (rune_long other begins.0 valid begins.1).0, size));
+        };
+        same = ap (λ k. Token Rune true k) size ∙ test.2;
+      }
+
+-- raw texts
+record Backed (spelling : Spelling) : Type 0 where
+  content : List ℕ
+  valid : list_all is_raw content ≡ true
+  printed : print_spelling spelling ≡ back_quote ∷ content ++ back_quote ∷ []
+  shape : shape_of (spelled spelling) ≡ Token Text true (length (print_spelling spelling))
+
+backed_of : (spelling : Spelling) → leads spelling ≡ raws → IsSpelling spelling → Backed spelling
+backed_of (raw_text content) lead h = record { content = content; valid = h; printed = refl; shape = refl }
+backed_of (identifier characters) lead h = cc
+backed_of (keyword word) lead h = cc
+backed_of (operator mark) lead h = cc
+backed_of (integer literal) lead h = cc
+backed_of (float literal) lead h = cc
+backed_of (imaginary literal) lead h = cc
+backed_of (rune element) lead h = cc
+backed_of (text elements) lead h = cc
+backed_of semicolon lead h = cc
+
+abbrev is_back : ℕ → Bool
+is_back b = b == back_quote
+
+raw_shape-within : (rest : List ℕ) → raw_length rest < length rest → raw_shape rest ≡ Some (Token Text true (raw_length rest + 2))
+unfolding raw_shape
+raw_shape-within rest within = let there : nat_lt (raw_length rest) (length rest) ≡ true = lt-ltb (raw_length rest) (length rest) within in rw there refl
+
+raw_shape-cases : (rest : List ℕ) (shape : Shape) → raw_shape rest ≡ Some shape → (raw_length rest < length rest) × (Token Text true (raw_length rest + 2) ≡ shape)
+unfolding raw_shape
+raw_shape-cases rest shape h = by_if (nat_lt (raw_length rest) (length rest)) _ _ _ h
+    (λ test e. (ltb-true (raw_length rest) (length rest) test, cc))
+    (λ test e. cc)
+
+module _ (rest : List ℕ) (number : begins_number (back_quote ∷ rest) ≡ false) where
+  begins_raw : (spelling : Spelling) → IsSpelling spelling → Begins (back_quote ∷ rest) (print_spelling spelling) → Backed spelling
+  begins_raw spelling valid begins =
+      backed_of spelling (sym (lead_of-begins (back_quote ∷ rest) spelling number valid begins) ∙ lead_of-ascii back_quote rest (omega arith)) valid
+
+  raw_long : (spelling : Spelling) (after : List ℕ) → IsSpelling spelling → back_quote ∷ rest ≡ print_spelling spelling ++ after
+      → (raw_length rest + 2 ≡ length (print_spelling spelling)) × (raw_length rest < length rest)
+  raw_long spelling after valid split =
+      let r = begins_raw spelling valid (after, split) in
+      let follows = between back_quote rest r.content after (split ∙ ap (λ l. l ++ after) r.printed) in
+      let long : raw_length rest ≡ length r.content = ap raw_length follows ∙ place_until is_back r.content back_quote after r.valid refl in (
+        omega (arith, ap length r.printed, length-marks back_quote r.content),
+        omega (arith, ap length follows, length-append r.content (back_quote ∷ after)),
+      )
+
+  pub raw_found : (spelling : Spelling) (after : List ℕ) → SpelledAt (back_quote ∷ rest) spelling after → raw_shape rest ≡ Some (shape_of (spelled spelling))
+  raw_found spelling after h =
+      let r = begins_raw spelling h.valid (after, h.split) in
+      let long = raw_long spelling after h.valid h.split in
+      raw_shape-within rest long.1 ∙ ap (λ n. Some (Token Text true n)) long.0 ∙ ap Some (sym r.shape)
+
+  pub raw_stands : (shape : Shape) → raw_shape rest ≡ Some shape → SpelledAs (back_quote ∷ rest) shape
+  raw_stands shape found =
+      let test = raw_shape-cases rest shape found in
+      let n = raw_length rest in
+      let content = take n rest in
+      let after = drop (n + 1) rest in
+      let closing : get_or rest n 0 ≡ back_quote = eqb-true (get_or rest n 0) back_quote (place_passes is_back rest test.0) in
+      let split : rest ≡ content ++ back_quote ∷ after = around n rest test.0 ∙ ap (λ x. content ++ x ∷ after) closing in
+      let size : length (print_spelling (raw_text content)) ≡ n + 2 = omega (arith, length-marks back_quote content, length-take-le n rest (omega (arith, test.0))) in
+      record {
+        spelling = raw_text content;
+        after = after;
+        stands = record {
+          split = ap (λ l. back_quote ∷ l) split ∙ around_marks back_quote content after;
+          valid = list_all-take_prefix_len is_raw rest;
+          extent = extent_of-longest (back_quote ∷ rest) (raw_text content) number (λ other valid begins. omega (arith, (raw_long other begins.0 valid begins.1).0, size));
+        };
+        same = ap (λ k. Token Text true k) size ∙ test.1;
+      }

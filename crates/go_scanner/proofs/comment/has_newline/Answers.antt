@@ -1,0 +1,7 @@
+use Rattle.std.proofs.Common.{◌∙◌}
+use Rattle.memchr.specs.Find.{is_byte}
+use Rattle.go_scanner.proofs.Places.{any_found}
+use Rattle.go_scanner.proofs.comment.has_newline.Goals as goal
+
+pub returns : goal.returns
+returns c = c.is_some.ensures ∙ any_found (is_byte 10) c.args.bytes.now c.memchr.result c.memchr.ensures

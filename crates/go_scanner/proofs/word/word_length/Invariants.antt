@@ -1,0 +1,10 @@
+use Rattle.std.proofs.Common.{◌-◌, length}
+use Rattle.go_scanner.proofs.Words.{WordFrom}
+use Rattle.go_scanner.proofs.word.word_length.Given as goal
+
+-- the name so far and what is left of it are the name
+abbrev pub invariant-loop-end : goal.invariant-loop-end
+invariant-loop-end l = WordFrom l.text l.end
+
+abbrev pub decreases-loop-end : goal.decreases-loop-end
+decreases-loop-end l = length l.text - l.end

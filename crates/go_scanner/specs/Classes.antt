@@ -1,0 +1,23 @@
+-- What may begin with a byte. Only contracts of private functions and proofs cite these.
+use Rattle.std.specs.Prelude.{ℕ, Bool, ◌||◌, if◌then◌else◌, ◌==◌, nat_lt}
+use Rattle.std.specs.Char.{is_ascii_alphabetic, is_ascii_digit}
+use Rattle.go_ast.specs.Characters.{newline, tab, carriage_return, space, underscore, double_quote, single_quote, back_quote, full_stop}
+use Rattle.go_scanner.specs.declared.front.Class as class
+use Rattle.go_scanner.specs.declared.front.Class.TheVariants.{LineEnd, Blank, Letter, Digit, DoubleQuote, SingleQuote, BackQuote, Semicolon, Slash, Point, Wide, Other}
+
+-- a letter of ASCII, or the underscore
+abbrev pub is_ascii_letter : ℕ → Bool
+is_ascii_letter b = b == underscore || is_ascii_alphabetic b
+
+abbrev pub class_of : ℕ → class.Class
+class_of b = if b == newline then LineEnd
+    else (if b == space || b == tab || b == carriage_return then Blank
+    else (if is_ascii_letter b then Letter
+    else (if is_ascii_digit b then Digit
+    else (if b == double_quote then DoubleQuote
+    else (if b == single_quote then SingleQuote
+    else (if b == back_quote then BackQuote
+    else (if b == 59 then Semicolon
+    else (if b == 47 then Slash
+    else (if b == full_stop then Point
+    else (if nat_lt b 128 then Other else Wide))))))))))
