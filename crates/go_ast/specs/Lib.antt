@@ -1,7 +1,11 @@
 pub mod Characters
+pub mod Cutting
 pub mod Lexical
+pub mod Marks
 pub mod Numbers
 pub mod Position
 pub mod Reading
 pub mod Texts
 pub mod Tokens
+pub mod TypeParameters
+pub mod Types

@@ -13,6 +13,7 @@ mod tests;
 mod token;
 mod tree;
 mod tree_copy;
+mod word;
 
 pub use config::Config;
 pub use declaration::{
@@ -24,3 +25,4 @@ pub use plain_data::{Bytes, Failed, IoFail, Mem, NoMemory, Seq, Txt};
 pub use token::{Comment, Scanned, Span, Token, TokenKind, TokenRange};
 pub use tree::{ChanDir, Element, Field, Param, Signature, Term, TypeExpr};
 pub use tree_copy::{copy_signature, copy_spans, copy_terms, copy_type};
+pub use word::{Mark, Word};

@@ -1,0 +1,5 @@
+use Rattle.type_parser.proofs.TypeLaws.{one-type}
+use Rattle.type_parser.proofs.laws.spelled_once.Goals as goal
+
+pub returns : goal.returns
+returns c = one-type 200
