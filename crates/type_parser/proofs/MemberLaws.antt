@@ -43,13 +43,24 @@ grows mark depth first front (w ∷ ws) = go (cuts mark depth w) refl (grows mar
     go true h ih = ([], pieces_from mark 0 [] ws, rw (h, append-nil) refl)
     go false h ih = (w ∷ ih.0, ih.1, rw h (ih.2 ∙ ap (λ us. (first ∷ us) ∷ ih.1) (append_assoc front (w ∷ []) ih.0)))
 
+-- a word that isn't the separator goes on with the piece
+passes : (mark : Mark) (depth : ℕ) (front : List Word) (w : Word) (ws : List Word) → w.mark ≢ mark
+    → pieces_from mark depth front (w ∷ ws) ≡ pieces_from mark (depth_after depth w.mark) (front ++ w ∷ []) ws
+passes mark depth front w ws other = rw (marks_differ w.mark mark other, false-right (depth == 0)) refl
+  where
+    false-right : (b : Bool) → (b && false) ≡ false
+    false-right true = refl
+    false-right false = refl
+
 -- a piece that begins with a name and a parenthesis
 call-piece : (w v : Word) (vs : List Word) → w.mark ≡ m.Ident → v.mark ≡ m.OpenParen
     → (us : List Word) × (ps : List (List Word)) × (pieces m.Bar (w ∷ v ∷ vs) ≡ (w ∷ v ∷ us) ∷ ps)
-unfolding pieces same_mark
+unfolding pieces
 call-piece w v vs is paren =
-    let more = grows m.Bar 1 w (v ∷ []) vs in
-    (more.0, more.1, rw (is, paren) more.2)
+    let more = grows m.Bar (depth_after (depth_after 0 w.mark) v.mark) w (v ∷ []) vs in
+    let first = passes m.Bar 0 [] w (v ∷ vs) (λ e. absurd (cc (is, e))) in
+    let second = passes m.Bar (depth_after 0 w.mark) (w ∷ []) v vs (λ e. absurd (cc (paren, e))) in
+    (more.0, more.1, first ∙ second ∙ more.2)
 
 module _ (f : List Word → Option TypeExpr) (S : List Word → TypeExpr → Type 0) where
   abbrev Sound : Type 0
