@@ -87,7 +87,10 @@ impl Mark {
     pub fn closes(self) -> bool
         ensures { result ≡ closes self }
     {
-        matches!(self, Mark::CloseParen | Mark::CloseBracket | Mark::CloseBrace)
+        matches!(
+            self,
+            Mark::CloseParen | Mark::CloseBracket | Mark::CloseBrace
+        )
     }
 }
 

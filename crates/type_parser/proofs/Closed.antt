@@ -33,4 +33,3 @@ opens-with opening close _ _ _ closed (encloses o c inner rest is ended nests) =
 pub alone-complete : (close : Mark) (us inner : List Word) → enclosed close us ≡ Some (inner, []) → alone close us ≡ Some inner
 unfolding alone
 alone-complete close us inner e = rw e refl
-

@@ -36,6 +36,7 @@ pair-is {A} {B} a c b d e = (ap first e, ap second e)
     first : Option (A × B) → A
     first (Some p) = p.0
     first None = a
+
     second : Option (A × B) → B
     second (Some p) = p.1
     second None = b
@@ -82,6 +83,7 @@ enclosed-is close inner c rest closed is h =
   where
     take_front : take (length inner) (inner ++ c ∷ rest) ≡ inner
     take_front = grind (arith, common_steps)
+
     drop_front : drop (length inner) (inner ++ c ∷ rest) ≡ c ∷ rest
     drop_front = grind (arith, common_steps)
 
@@ -93,6 +95,7 @@ is-enclosed close ws inner rest e = go (drop (inside 0 ws) ws) refl e
   where
     split : (after : List Word) → drop (inside 0 ws) ws ≡ after → ws ≡ take (inside 0 ws) ws ++ after
     split after h = rw (← h) (sym (take-append-drop (inside 0 ws) ws))
+
     go : (after : List Word) → drop (inside 0 ws) ws ≡ after → at_close close (take (inside 0 ws) ws) after ≡ Some (inner, rest)
         → (c : Word) × (c.mark ≡ close) × Nests 0 inner × (ws ≡ inner ++ c ∷ rest)
     go [] h f = absurd (cc)

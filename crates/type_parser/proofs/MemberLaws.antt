@@ -74,14 +74,14 @@ module _ (f : List Word → Option TypeExpr) (S : List Word → TypeExpr → Typ
   declared-sound h (name ∷ []) y e = absurd (cc)
   declared-sound h (name ∷ v ∷ vs) y e =
       let test = guard_some (same_mark name.mark m.Ident)
-          (cond (same_mark v.mark m.Comma) (with_name name.span <$> reads.declared f vs) (one_name name.span <$> f (v ∷ vs))) y e in
+      (cond (same_mark v.mark m.Comma) (with_name name.span <$> reads.declared f vs) (one_name name.span <$> f (v ∷ vs))) y e in
       let is = marks_are name.mark m.Ident test.0 in
       ⊎_elim
-        (λ p. let read = map_some (with_name name.span) (reads.declared f vs) y p.1 in
-            subst (λ z. g.Declared S (name ∷ v ∷ vs) z.0 z.1) read.2 (g.more name v is (marks_are v.mark m.Comma p.0) (declared-sound h vs read.0 read.1)))
-        (λ p. let read = map_some (one_name name.span) (f (v ∷ vs)) y p.1 in
-            subst (λ z. g.Declared S (name ∷ v ∷ vs) z.0 z.1) read.2 (g.one name is (h (v ∷ vs) read.0 read.1)))
-        (choice (same_mark v.mark m.Comma) (with_name name.span <$> reads.declared f vs) (one_name name.span <$> f (v ∷ vs)) (Some y) test.1)
+      (λ p. let read = map_some (with_name name.span) (reads.declared f vs) y p.1 in
+      subst (λ z. g.Declared S (name ∷ v ∷ vs) z.0 z.1) read.2 (g.more name v is (marks_are v.mark m.Comma p.0) (declared-sound h vs read.0 read.1)))
+      (λ p. let read = map_some (one_name name.span) (f (v ∷ vs)) y p.1 in
+      subst (λ z. g.Declared S (name ∷ v ∷ vs) z.0 z.1) read.2 (g.one name is (h (v ∷ vs) read.0 read.1)))
+      (choice (same_mark v.mark m.Comma) (with_name name.span <$> reads.declared f vs) (one_name name.span <$> f (v ∷ vs)) (Some y) test.1)
 
   field_body-sound : Sound → (ws : List Word) (y : List Span × TypeExpr) → reads.field_body f ws ≡ Some y → g.IsFieldBody S ws y.0 y.1
   unfolding reads.field_body
@@ -92,17 +92,17 @@ module _ (f : List Word → Option TypeExpr) (S : List Word → TypeExpr → Typ
       subst (λ z. g.IsFieldBody S (w ∷ []) z.0 z.1) read.2 (g.embedded w (marks_are w.mark m.Ident test.0) (h (w ∷ []) read.0 read.1))
   field_body-sound h (w ∷ v ∷ vs) y e = ⊎_elim
       (λ p. let test = guard_some (same_mark v.mark m.Ident) (reads.embedded f (w ∷ v ∷ vs)) y p.1 in
-          let read = map_some no_names (f (w ∷ v ∷ vs)) y test.1 in
-          subst (λ z. g.IsFieldBody S (w ∷ v ∷ vs) z.0 z.1) read.2
-            (g.embedded_pointer w v (marks_are w.mark m.Star p.0) (marks_are v.mark m.Ident test.0) (h (w ∷ v ∷ vs) read.0 read.1)))
+      let read = map_some no_names (f (w ∷ v ∷ vs)) y test.1 in
+      subst (λ z. g.IsFieldBody S (w ∷ v ∷ vs) z.0 z.1) read.2
+      (g.embedded_pointer w v (marks_are w.mark m.Star p.0) (marks_are v.mark m.Ident test.0) (h (w ∷ v ∷ vs) read.0 read.1)))
       (λ p. ⊎_elim
-        (λ q. g.with_names (declared-sound h (w ∷ v ∷ vs) y q.1))
-        (λ q. let test = guard_some (same_mark w.mark m.Ident) (reads.embedded f (w ∷ v ∷ vs)) y q.1 in
-            let read = map_some no_names (f (w ∷ v ∷ vs)) y test.1 in
-            subst (λ z. g.IsFieldBody S (w ∷ v ∷ vs) z.0 z.1) read.2 (g.embedded w (marks_are w.mark m.Ident test.0) (h (w ∷ v ∷ vs) read.0 read.1)))
-        (choice (looks_named (w ∷ v ∷ vs)) (reads.declared f (w ∷ v ∷ vs)) (cond (same_mark w.mark m.Ident) (reads.embedded f (w ∷ v ∷ vs)) None) (Some y) p.1))
+      (λ q. g.with_names (declared-sound h (w ∷ v ∷ vs) y q.1))
+      (λ q. let test = guard_some (same_mark w.mark m.Ident) (reads.embedded f (w ∷ v ∷ vs)) y q.1 in
+      let read = map_some no_names (f (w ∷ v ∷ vs)) y test.1 in
+      subst (λ z. g.IsFieldBody S (w ∷ v ∷ vs) z.0 z.1) read.2 (g.embedded w (marks_are w.mark m.Ident test.0) (h (w ∷ v ∷ vs) read.0 read.1)))
+      (choice (looks_named (w ∷ v ∷ vs)) (reads.declared f (w ∷ v ∷ vs)) (cond (same_mark w.mark m.Ident) (reads.embedded f (w ∷ v ∷ vs)) None) (Some y) p.1))
       (choice (same_mark w.mark m.Star) (cond (same_mark v.mark m.Ident) (reads.embedded f (w ∷ v ∷ vs)) None)
-        (cond (looks_named (w ∷ v ∷ vs)) (reads.declared f (w ∷ v ∷ vs)) (cond (same_mark w.mark m.Ident) (reads.embedded f (w ∷ v ∷ vs)) None)) (Some y) e)
+      (cond (looks_named (w ∷ v ∷ vs)) (reads.declared f (w ∷ v ∷ vs)) (cond (same_mark w.mark m.Ident) (reads.embedded f (w ∷ v ∷ vs)) None)) (Some y) e)
 
   field-sound : Sound → (ws : List Word) (y : Field) → reads.read_field f ws ≡ Some y → g.IsField S ws y
   unfolding reads.read_field
@@ -120,17 +120,17 @@ module _ (f : List Word → Option TypeExpr) (S : List Word → TypeExpr → Typ
       let inner = bind_some (alone m.CloseBrace ws) (reads.fields f) x test.1 in
       let all = map_some t.Struct (each (reads.read_field f) (pieces m.Semi inner.0)) x inner.2 in
       subst (g.IsType S (word ∷ w ∷ ws)) all.2
-        (g.structure word all.0 is (alone-sound m.OpenBrace m.CloseBrace w ws inner.0 (marks_are w.mark m.OpenBrace test.0) inner.1)
-          (each-sound (reads.read_field f) (g.IsField S) (field-sound h) (pieces m.Semi inner.0) all.0 all.1))
+      (g.structure word all.0 is (alone-sound m.OpenBrace m.CloseBrace w ws inner.0 (marks_are w.mark m.OpenBrace test.0) inner.1)
+      (each-sound (reads.read_field f) (g.IsField S) (field-sound h) (pieces m.Semi inner.0) all.0 all.1))
 
   term-sound : Sound → (ws : List Word) (y : Term) → reads.read_term f ws ≡ Some y → g.IsTerm S ws y
   unfolding reads.read_term
   term-sound h [] y e = absurd (cc)
   term-sound h (w ∷ ws) y e = ⊎_elim
       (λ p. let read = map_some (term true) (f ws) y p.1 in
-          subst (g.IsTerm S (w ∷ ws)) read.2 (g.underlying w (marks_are w.mark m.Tilde p.0) (h ws read.0 read.1)))
+      subst (g.IsTerm S (w ∷ ws)) read.2 (g.underlying w (marks_are w.mark m.Tilde p.0) (h ws read.0 read.1)))
       (λ p. let read = map_some (term false) (f (w ∷ ws)) y p.1 in
-          subst (g.IsTerm S (w ∷ ws)) read.2 (g.exactly (h (w ∷ ws) read.0 read.1)))
+      subst (g.IsTerm S (w ∷ ws)) read.2 (g.exactly (h (w ∷ ws) read.0 read.1)))
       (choice (same_mark w.mark m.Tilde) (term true <$> f ws) (term false <$> f (w ∷ ws)) (Some y) e)
 
   pub terms-sound : Sound → (ws : List Word) (ys : List Term) → reads.read_terms f ws ≡ Some ys → g.AreTerms S ws ys
@@ -139,10 +139,10 @@ module _ (f : List Word → Option TypeExpr) (S : List Word → TypeExpr → Typ
   terms-sound h (w ∷ ws) ys e = ⊎_elim
       (λ p. absurd (cc p.1))
       (λ p. let all = bind_some (each (reads.read_term f) (pieces m.Bar (w ∷ ws))) not_empty ys p.1 in
-          let some = not_empty_some all.0 ys all.2 in
-          let shown : ys ≡ some.0 ∷ some.1 = some.2 in
-          let spelled = each-sound (reads.read_term f) (g.IsTerm S) (term-sound h) (pieces m.Bar (w ∷ ws)) (some.0 ∷ some.1) (all.1 ∙ ap Some (some.3 ∙ shown)) in
-          subst (g.AreTerms S (w ∷ ws)) (sym shown) (g.terms w (differ_marks (last_of w ws).mark m.Bar p.0) spelled))
+      let some = not_empty_some all.0 ys all.2 in
+      let shown : ys ≡ some.0 ∷ some.1 = some.2 in
+      let spelled = each-sound (reads.read_term f) (g.IsTerm S) (term-sound h) (pieces m.Bar (w ∷ ws)) (some.0 ∷ some.1) (all.1 ∙ ap Some (some.3 ∙ shown)) in
+      subst (g.AreTerms S (w ∷ ws)) (sym shown) (g.terms w (differ_marks (last_of w ws).mark m.Bar p.0) spelled))
       (choice (same_mark (last_of w ws).mark m.Bar) None (each (reads.read_term f) (pieces m.Bar (w ∷ ws)) >>= not_empty) (Some ys) e)
 
   method-named : (w : Word) (ws : List Word) → is_method w ws ≡ true → w.mark ≡ m.Ident
@@ -155,11 +155,11 @@ module _ (f : List Word → Option TypeExpr) (S : List Word → TypeExpr → Typ
   element-sound h [] y e = absurd (cc)
   element-sound h (w ∷ ws) y e = ⊎_elim
       (λ p. let read = map_some (elements.Method (range_of w ws) w.span) (reads.read_signature f ws) y p.1 in
-          subst (g.IsElement S (w ∷ ws)) read.2 (g.method w (method-named w ws p.0) (signature-sound f S h ws read.0 read.1)))
+      subst (g.IsElement S (w ∷ ws)) read.2 (g.method w (method-named w ws p.0) (signature-sound f S h ws read.0 read.1)))
       (λ p. let read = map_some (elements.Terms (range_of w ws)) (reads.read_terms f (w ∷ ws)) y p.1 in
-          subst (g.IsElement S (w ∷ ws)) read.2 (g.union w (terms-sound h (w ∷ ws) read.0 read.1)))
+      subst (g.IsElement S (w ∷ ws)) read.2 (g.union w (terms-sound h (w ∷ ws) read.0 read.1)))
       (choice (is_method w ws) (elements.Method (range_of w ws) w.span <$> reads.read_signature f ws)
-        (elements.Terms (range_of w ws) <$> reads.read_terms f (w ∷ ws)) (Some y) e)
+      (elements.Terms (range_of w ws) <$> reads.read_terms f (w ∷ ws)) (Some y) e)
 
   pub interface-sound : Sound → (word : Word) (ws : List Word) (x : TypeExpr) → word.mark ≡ m.Interface → reads.interface f ws ≡ Some x → g.IsType S (word ∷ ws) x
   unfolding reads.interface
@@ -169,8 +169,8 @@ module _ (f : List Word → Option TypeExpr) (S : List Word → TypeExpr → Typ
       let inner = bind_some (alone m.CloseBrace ws) (reads.elements_of f) x test.1 in
       let all = map_some t.Interface (each (reads.read_element f) (pieces m.Semi inner.0)) x inner.2 in
       subst (g.IsType S (word ∷ w ∷ ws)) all.2
-        (g.interface word all.0 is (alone-sound m.OpenBrace m.CloseBrace w ws inner.0 (marks_are w.mark m.OpenBrace test.0) inner.1)
-          (each-sound (reads.read_element f) (g.IsElement S) (element-sound h) (pieces m.Semi inner.0) all.0 all.1))
+      (g.interface word all.0 is (alone-sound m.OpenBrace m.CloseBrace w ws inner.0 (marks_are w.mark m.OpenBrace test.0) inner.1)
+      (each-sound (reads.read_element f) (g.IsElement S) (element-sound h) (pieces m.Semi inner.0) all.0 all.1))
 
   -- the other way round
   declared-complete : Complete → Reads f → (ws : List Word) (names : List Span) (x : TypeExpr) → g.Declared S ws names x → reads.declared f ws ≡ Some (names, x)
@@ -222,8 +222,12 @@ module _ (f : List Word → Option TypeExpr) (S : List Word → TypeExpr → Typ
   unfolding reads.structure
   structure-complete h r ws inner fields brackets s =
       let begun = opens-with m.OpenBrace m.CloseBrace ws inner [] refl brackets in
-      rw (begun.2, marks_same begun.0.mark m.OpenBrace begun.3, alone-complete m.CloseBrace begun.1 inner begun.4,
-          each-complete (reads.read_field f) (g.IsField S) (field-complete h r) (pieces m.Semi inner) fields s) refl
+      rw (
+        begun.2,
+        marks_same begun.0.mark m.OpenBrace begun.3,
+        alone-complete m.CloseBrace begun.1 inner begun.4,
+        each-complete (reads.read_field f) (g.IsField S) (field-complete h r) (pieces m.Semi inner) fields s,
+      ) refl
 
   term-complete : Complete → Reads f → (ws : List Word) (y : Term) → g.IsTerm S ws y → reads.read_term f ws ≡ Some y
   unfolding reads.read_term
@@ -276,5 +280,9 @@ module _ (f : List Word → Option TypeExpr) (S : List Word → TypeExpr → Typ
   unfolding reads.interface
   interface-complete h r ws inner es brackets s =
       let begun = opens-with m.OpenBrace m.CloseBrace ws inner [] refl brackets in
-      rw (begun.2, marks_same begun.0.mark m.OpenBrace begun.3, alone-complete m.CloseBrace begun.1 inner begun.4,
-          each-complete (reads.read_element f) (g.IsElement S) (element-complete h r) (pieces m.Semi inner) es s) refl
+      rw (
+        begun.2,
+        marks_same begun.0.mark m.OpenBrace begun.3,
+        alone-complete m.CloseBrace begun.1 inner begun.4,
+        each-complete (reads.read_element f) (g.IsElement S) (element-complete h r) (pieces m.Semi inner) es s,
+      ) refl

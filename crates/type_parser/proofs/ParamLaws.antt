@@ -58,14 +58,14 @@ module _ (f : List Word → Option TypeExpr) (S : List Word → TypeExpr → Typ
   typed-sound h dots [] y e = absurd (cc)
   typed-sound h true (w ∷ ws) y e = ⊎_elim
       (λ p. let read = map_some (λ x. (x, true)) (f ws) y p.1 in
-          subst (λ z. g.Typed S true (w ∷ ws) z.0 z.1) read.2 (g.variadic w (marks_are w.mark m.Ellipsis p.0) (h ws read.0 read.1)))
+      subst (λ z. g.Typed S true (w ∷ ws) z.0 z.1) read.2 (g.variadic w (marks_are w.mark m.Ellipsis p.0) (h ws read.0 read.1)))
       (λ p. let read = map_some (λ x. (x, false)) (f (w ∷ ws)) y p.1 in
-          subst (λ z. g.Typed S true (w ∷ ws) z.0 z.1) read.2 (g.plain true (h (w ∷ ws) read.0 read.1)))
+      subst (λ z. g.Typed S true (w ∷ ws) z.0 z.1) read.2 (g.plain true (h (w ∷ ws) read.0 read.1)))
       (choice (same_mark w.mark m.Ellipsis) ((λ x. (x, true)) <$> f ws) ((λ x. (x, false)) <$> f (w ∷ ws)) (Some y) e)
   typed-sound h false (w ∷ ws) y e = ⊎_elim
       (λ p. absurd (cc p.1))
       (λ p. let read = map_some (λ x. (x, false)) (f (w ∷ ws)) y p.1 in
-          subst (λ z. g.Typed S false (w ∷ ws) z.0 z.1) read.2 (g.plain false (h (w ∷ ws) read.0 read.1)))
+      subst (λ z. g.Typed S false (w ∷ ws) z.0 z.1) read.2 (g.plain false (h (w ∷ ws) read.0 read.1)))
       (choice (same_mark w.mark m.Ellipsis) None ((λ x. (x, false)) <$> f (w ∷ ws)) (Some y) e)
 
   shared-sound : (dots : Bool) (name : Word) (es : List (List Word)) (ps qs : List Param) → name.mark ≡ m.Ident → g.Named S dots es ps
@@ -134,10 +134,10 @@ module _ (f : List Word → Option TypeExpr) (S : List Word → TypeExpr → Typ
       → reads.result_of f (v ∷ vs) v vs ≡ Some rs → g.IsSignature S ws (signature ps rs)
   result_of-sound h v vs inner ws ps rs brackets spelled e = ⊎_elim
       (λ p. let outs = bind_some (alone m.CloseParen vs) (reads.params f false) rs p.1 in
-          g.results brackets (alone-sound m.OpenParen m.CloseParen v vs outs.0 (marks_are v.mark m.OpenParen p.0) outs.1) spelled (params-sound h false outs.0 rs outs.2))
+      g.results brackets (alone-sound m.OpenParen m.CloseParen v vs outs.0 (marks_are v.mark m.OpenParen p.0) outs.1) spelled (params-sound h false outs.0 rs outs.2))
       (λ p. let read = map_some (λ x. param None x false ∷ []) (f (v ∷ vs)) rs p.1 in
-          subst (λ qs. g.IsSignature S ws (signature ps qs)) read.2
-            (g.one_result v brackets (differ_marks v.mark m.OpenParen p.0) spelled (h (v ∷ vs) read.0 read.1)))
+      subst (λ qs. g.IsSignature S ws (signature ps qs)) read.2
+      (g.one_result v brackets (differ_marks v.mark m.OpenParen p.0) spelled (h (v ∷ vs) read.0 read.1)))
       (choice (same_mark v.mark m.OpenParen) (alone m.CloseParen vs >>= reads.params f false) ((λ x. param None x false ∷ []) <$> f (v ∷ vs)) (Some rs) e)
 
   results-sound : Sound → (inner rest ws : List Word) (ps rs : List Param) → Encloses m.OpenParen m.CloseParen ws inner rest → g.Params S true inner ps
@@ -230,8 +230,16 @@ module _ (f : List Word → Option TypeExpr) (S : List Word → TypeExpr → Typ
   signature-complete h r _ _ (g.results {ws} {inner} {rest} {outs} {ps} {rs} brackets behind p q) =
       let begun = opens-with m.OpenParen m.CloseParen ws inner rest refl brackets in
       let second = opens-with m.OpenParen m.CloseParen rest outs [] refl behind in
-      rw (begun.2, marks_same begun.0.mark m.OpenParen begun.3, begun.4, params-complete h r true inner ps p, second.2, marks_same second.0.mark m.OpenParen second.3,
-          alone-complete m.CloseParen second.1 outs second.4, params-complete h r false outs rs q) refl
+      rw (
+        begun.2,
+        marks_same begun.0.mark m.OpenParen begun.3,
+        begun.4,
+        params-complete h r true inner ps p,
+        second.2,
+        marks_same second.0.mark m.OpenParen second.3,
+        alone-complete m.CloseParen second.1 outs second.4,
+        params-complete h r false outs rs q,
+      ) refl
   signature-complete h r _ _ (g.one_result {ws} {inner} {rest} v {ps} {x} brackets other p s) =
       let begun = opens-with m.OpenParen m.CloseParen ws inner (v ∷ rest) refl brackets in
       rw (begun.2, marks_same begun.0.mark m.OpenParen begun.3, begun.4, params-complete h r true inner ps p, marks_differ v.mark m.OpenParen other, h (v ∷ rest) x s) refl

@@ -6,7 +6,6 @@ use Rattle.go_ast.specs.Cutting.{depth_after, pieces_from, pieces}
 use Rattle.go_ast.specs.Marks.{same_mark}
 use Rattle.type_parser.specs.Cut.{before}
 
-
 -- a separator outside brackets
 abbrev pub cuts : Mark → ℕ → Word → Bool
 cuts mark depth w = depth == 0 && same_mark w.mark mark
@@ -19,7 +18,7 @@ pieces_from-more mark depth front (w ∷ ws) s rest e = go (cuts mark depth w) r
   where
     go : (t : Bool) → cuts mark depth w ≡ t
         → (drop (before mark (depth_after depth w.mark) ws) ws ≡ s ∷ rest
-            → pieces_from mark (depth_after depth w.mark) (front ++ w ∷ []) ws ≡ ((front ++ w ∷ []) ++ take (before mark (depth_after depth w.mark) ws) ws) ∷ pieces_from mark 0 [] rest)
+        → pieces_from mark (depth_after depth w.mark) (front ++ w ∷ []) ws ≡ ((front ++ w ∷ []) ++ take (before mark (depth_after depth w.mark) ws) ws) ∷ pieces_from mark 0 [] rest)
         → pieces_from mark depth front (w ∷ ws) ≡ (front ++ take (before mark depth (w ∷ ws)) (w ∷ ws)) ∷ pieces_from mark 0 [] rest
     go true h ih = let same : ws ≡ rest = cc (rw h at e) in rw (h, append-nil, same) refl
     go false h ih = rw (h, ih (rw h at e), append_assoc) refl
@@ -32,6 +31,7 @@ pieces_from-last mark depth front w [] e = go (cuts mark depth w) refl
     one : (us : List Word) → pieces_from mark (depth_after depth w.mark) (us ++ w ∷ []) [] ≡ (us ++ w ∷ []) ∷ []
     one [] = refl
     one (u ∷ us) = refl
+
     go : (t : Bool) → cuts mark depth w ≡ t → pieces_from mark depth front (w ∷ []) ≡ (front ++ w ∷ []) ∷ []
     go true h = absurd (cc (rw h at e))
     go false h = rw h (one front)
@@ -39,7 +39,7 @@ pieces_from-last mark depth front w (v ∷ vs) e = go (cuts mark depth w) refl (
   where
     go : (t : Bool) → cuts mark depth w ≡ t
         → (drop (before mark (depth_after depth w.mark) (v ∷ vs)) (v ∷ vs) ≡ []
-            → pieces_from mark (depth_after depth w.mark) (front ++ w ∷ []) (v ∷ vs) ≡ ((front ++ w ∷ []) ++ v ∷ vs) ∷ [])
+        → pieces_from mark (depth_after depth w.mark) (front ++ w ∷ []) (v ∷ vs) ≡ ((front ++ w ∷ []) ++ v ∷ vs) ∷ [])
         → pieces_from mark depth front (w ∷ v ∷ vs) ≡ (front ++ w ∷ v ∷ vs) ∷ []
     go true h ih = absurd (cc (rw h at e))
     go false h ih = rw h (ih (rw h at e) ∙ ap (λ us. us ∷ []) (append_assoc front (w ∷ []) (v ∷ vs)))

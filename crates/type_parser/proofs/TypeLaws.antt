@@ -38,7 +38,7 @@ module _ (f : List Word → Option TypeExpr) (S : List Word → TypeExpr → Typ
       let shown : xs ≡ some.0 ∷ some.1 = some.2 in
       let spelled = each-sound f S h (pieces m.Comma inner.0) (some.0 ∷ some.1) (all.1 ∙ ap Some (some.3 ∙ shown)) in
       subst (Arguments S (w ∷ ws)) (sym shown)
-        (present (alone-sound m.OpenBracket m.CloseBracket w ws inner.0 (marks_are w.mark m.OpenBracket test.0) inner.1) spelled)
+      (present (alone-sound m.OpenBracket m.CloseBracket w ws inner.0 (marks_are w.mark m.OpenBracket test.0) inner.1) spelled)
 
   arguments-complete : Complete → (ws : List Word) (xs : List TypeExpr) → Arguments S ws xs → reads.arguments f ws ≡ Some xs
   unfolding reads.arguments reads.list
@@ -112,9 +112,9 @@ module _ (f : List Word → Option TypeExpr) (S : List Word → TypeExpr → Typ
   channel-sound h word [] x is e = absurd (cc)
   channel-sound h word (w ∷ ws) x is e = ⊎_elim
       (λ p. let elem = map_some (t.Chan dirs.Send) (f ws) x p.1 in
-          subst (IsType S (word ∷ w ∷ ws)) elem.2 (sending word w is (marks_are w.mark m.Arrow p.0) (h ws elem.0 elem.1)))
+      subst (IsType S (word ∷ w ∷ ws)) elem.2 (sending word w is (marks_are w.mark m.Arrow p.0) (h ws elem.0 elem.1)))
       (λ p. let elem = map_some (t.Chan dirs.Both) (f (w ∷ ws)) x p.1 in
-          subst (IsType S (word ∷ w ∷ ws)) elem.2 (channel word is (differ_marks w.mark m.Arrow p.0) (h (w ∷ ws) elem.0 elem.1)))
+      subst (IsType S (word ∷ w ∷ ws)) elem.2 (channel word is (differ_marks w.mark m.Arrow p.0) (h (w ∷ ws) elem.0 elem.1)))
       (choice (same_mark w.mark m.Arrow) (t.Chan dirs.Send <$> f ws) (t.Chan dirs.Both <$> f (w ∷ ws)) (Some x) e)
 
   receiving-sound : Sound → (arrow : Word) (ws : List Word) (x : TypeExpr) → arrow.mark ≡ m.Arrow → reads.receiving f ws ≡ Some x → IsType S (arrow ∷ ws) x
@@ -254,7 +254,7 @@ module _ (f : List Word → Option TypeExpr) (nothing : f [] ≡ None) where
   name-looks w v vs x e = ⊎_elim
       (λ p. dot v vs (p.0))
       (λ p. let test = guard_some (same_mark w.mark m.Ident) (t.Name None w.span <$> reads.arguments f (v ∷ vs)) x p.1 in
-          let all = map_some (t.Name None w.span) (reads.arguments f (v ∷ vs)) x test.1 in arguments-all v vs all.0 all.1)
+      let all = map_some (t.Name None w.span) (reads.arguments f (v ∷ vs)) x test.1 in arguments-all v vs all.0 all.1)
       (choice (same_mark v.mark m.Dot) (reads.qualified f w.span vs) (reads.named f None w (v ∷ vs)) (Some x) e)
     where
       dot : (u : Word) (us : List Word) → same_mark u.mark m.Dot ≡ true → may_be_type u us ≡ false
