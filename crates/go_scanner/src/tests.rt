@@ -221,7 +221,7 @@ fn literals(rt: HostRuntime) {
         (Ident, "\u{FF21}"),
         (Keyword, "fallthrough"),
     ] {
-        let end = source.len() as u32;
+        let end = u32::try_from(source.len()).expect(&rt, "a short literal");
         let wanted = [token(kind, 0, end), token(AutoSemi, end, end)];
         assert_tokens(&rt, source.as_bytes(), &wanted);
     }

@@ -4,5 +4,4 @@ mod Gathering
 mod HitLines
 mod Joins
 mod Outcomes
-mod Positions
 mod Sessions

@@ -1,35 +1,22 @@
 -- Cited by public clauses: the text of `find`, a line for each identifier with a name. The
 -- project's own.
-use Rattle.std.specs.Prelude.{◌≡◌, ℕ, Bool, true, false, ◌&&◌, ◌⊎◌, List, [], ◌∷◌, ◌++◌, slice_range, decimal, codes, if◌then◌else◌, ◌≤◌}
+use Rattle.std.specs.Prelude.{◌≡◌, ℕ, Bool, ◌&&◌, ◌⊎◌, List, [], ◌∷◌, ◌++◌, decimal, codes, if◌then◌else◌}
 use Rattle.std.specs.List.{flat_map}
 use Rattle.std.specs.Str.{bytes_eq}
 use Rattle.go_ast.specs.declared.token.Token.{Token}
-use Rattle.go_ast.specs.declared.token.TokenKind.{TokenKind}
-use Rattle.go_ast.specs.declared.token.TokenKind.TheVariants.{Ident, Keyword, Int, Float, Imaginary, Rune, Text, Operator, Semi, AutoSemi}
 use Rattle.go_ast.specs.declared.token.Comment.{Comment}
 use Rattle.go_ast.specs.Position.{line_of, column_of}
 use Rattle.go_ast.specs.Reading.{Reads}
+use Rattle.go_ast.specs.Tokens.{is_ident, text_of}
 use Rattle.go_scanner.specs.Answers.{IsRead}
 use Rattle.tree_io.specs.declared.tree.Entry.{Entry}
 use Rattle.tree_io.specs.declared.tree.Entry.TheVariants.{Bytes}
 use Rattle.tree_io.specs.Sources.{Sources}
 
-abbrev pub is_identifier : TokenKind → Bool
-is_identifier Ident = true
-is_identifier Keyword = false
-is_identifier Int = false
-is_identifier Float = false
-is_identifier Imaginary = false
-is_identifier Rune = false
-is_identifier Text = false
-is_identifier Operator = false
-is_identifier Semi = false
-is_identifier AutoSemi = false
-
 -- an identifier whose text is the name
 abbrev pub is_hit : List ℕ → List ℕ → Token → Bool
 is_hit name bytes token =
-    is_identifier token.kind && bytes_eq (slice_range bytes token.span.start token.span.end) name
+    is_ident token.kind && bytes_eq (text_of bytes token) name
 
 -- PATH:LINE:COL and a newline
 unfoldable pub position_line : List ℕ → ℕ → ℕ → List ℕ
@@ -65,7 +52,3 @@ IsFindText name [] text = text ≡ []
 IsFindText name (source ∷ sources) text =
     (lines : List ℕ) × (more : List ℕ) × FindsAt name source.0 source.1 lines
     × IsFindText name sources more × (text ≡ lines ++ more)
-
--- the span of a token is in order, and within so many bytes
-abbrev pub IsWithin : ℕ → Token → Type 0
-IsWithin size token = (token.span.start ≤ token.span.end) × (token.span.end ≤ size)

@@ -1,35 +1,17 @@
 -- Cited by public clauses: the packages of a tree, as the paths of their folders. The project's
 -- own, but for the package clause (The Go Programming Language Specification, "Package clause").
-use Rattle.std.specs.Prelude.{◌≡◌, ℕ, Bool, true, false, ◌&&◌, not, IsTrue, ◌↔◌, List, [], ◌∷◌, Contains, slice_range, codes}
+use Rattle.std.specs.Prelude.{◌≡◌, ℕ, Bool, true, false, ◌&&◌, not, IsTrue, ◌↔◌, List, [], ◌∷◌, Contains, codes}
 use Rattle.std.specs.Option.{option_map_or}
 use Rattle.std.specs.Path.{slash, rsplit_once}
 use Rattle.std.specs.Str.{bytes_eq}
 use Rattle.go_ast.specs.declared.token.Token.{Token}
-use Rattle.go_ast.specs.declared.token.TokenKind.{TokenKind}
-use Rattle.go_ast.specs.declared.token.TokenKind.TheVariants.{Ident, Keyword, Int, Float, Imaginary, Rune, Text, Operator, Semi, AutoSemi}
 use Rattle.go_ast.specs.declared.token.Comment.{Comment}
 use Rattle.go_ast.specs.Reading.{Reads}
 use Rattle.tree_io.specs.declared.tree.Entry.{Entry}
 use Rattle.tree_io.specs.declared.tree.Entry.TheVariants.{Bytes}
 use Rattle.tree_io.specs.Path.{IsRising}
 use Rattle.tree_io.specs.Sources.{Sources, IsSources}
-use Rattle.godoc.specs.Find.{is_identifier}
-
-abbrev pub is_keyword : TokenKind → Bool
-is_keyword Ident = false
-is_keyword Keyword = true
-is_keyword Int = false
-is_keyword Float = false
-is_keyword Imaginary = false
-is_keyword Rune = false
-is_keyword Text = false
-is_keyword Operator = false
-is_keyword Semi = false
-is_keyword AutoSemi = false
-
--- the text of a token in its source
-abbrev pub text_of : List ℕ → Token → List ℕ
-text_of bytes token = slice_range bytes token.span.start token.span.end
+use Rattle.go_ast.specs.Tokens.{is_ident, is_keyword, text_of}
 
 -- the keyword `package`
 abbrev pub is_package_word : List ℕ → Token → Bool
@@ -39,7 +21,7 @@ is_package_word bytes token =
 -- an identifier other than `_`
 abbrev pub is_package_name : List ℕ → Token → Bool
 is_package_name bytes token =
-    is_identifier token.kind && not (bytes_eq (text_of bytes token) (codes "_"))
+    is_ident token.kind && not (bytes_eq (text_of bytes token) (codes "_"))
 
 -- whether a source with these tokens begins with a package clause
 abbrev pub begins_with_clause : List ℕ → List Token → Bool

@@ -1,10 +1,9 @@
 -- Cited by public clauses: the words of the command line. The project's own.
-use Rattle.std.specs.Prelude.{ℕ, Bool, true, false, ◌&&◌, ◌||◌, not, List, [], ◌∷◌, Option, Some, None, codes, drop, slice_index_or, ⊤, if◌then◌else◌}
-use Rattle.std.specs.List.{list_all}
+use Rattle.std.specs.Prelude.{ℕ, ◌&&◌, List, [], ◌∷◌, Option, Some, None, codes, drop, slice_index_or, ⊤, if◌then◌else◌}
 use Rattle.std.specs.Str.{bytes_eq}
 use Rattle.godoc.specs.declared.words.Command as commands
 use Rattle.godoc.specs.declared.words.Command.TheVariants as variants
-use Rattle.go_ast.specs.Lexical.{is_letter, is_letter_or_digit, is_among, keywords}
+use Rattle.go_chars.specs.Identifiers.{is_name}
 
 -- the root folder of a command line, which begins with the program's name: the word after that, and
 -- the empty text where there is none
@@ -15,12 +14,6 @@ root_of line = slice_index_or line 1 []
 abbrev pub words_after_root : List (List ℕ) → List (List ℕ)
 words_after_root line = drop 2 line
 
--- an ASCII letter or `_`, followed by ASCII letters, digits and `_`, that is no keyword
-abbrev pub is_name : List ℕ → Bool
-is_name [] = false
-is_name (c ∷ cs) =
-    (is_letter c && list_all is_letter_or_digit cs) && not (is_among keywords (c ∷ cs))
-
 -- what the words ask for
 pub data Command : Type 0 where
   -- the places of a name
@@ -28,7 +21,8 @@ pub data Command : Type 0 where
   -- the replies to the requests of one connection
   answer : Command
 
--- the words are `answer` alone, or `find` and a name
+-- the words are `answer` alone, or `find` and a name: an identifier that is no
+-- keyword
 abbrev pub command_of : List (List ℕ) → Option Command
 command_of [] = None
 command_of (word ∷ []) = if bytes_eq word (codes "answer") then Some answer else None

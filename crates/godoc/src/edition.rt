@@ -3,13 +3,13 @@
 ghost use Rattle.std.specs.Prelude.{◌≡◌, ◌↔◌, ◌≤◌, All, IfOk, IfSome, IsSome, IsTrue, OnErr, OnOk, length, map, string_bytes};
 ghost use Rattle.std.specs.Option.{ForSome};
 ghost use Rattle.plain_data.specs.Causes.{HasIoCause};
+ghost use Rattle.go_ast.specs.Tokens.{IsWithin, text_of};
 ghost use Rattle.tree_io.specs.declared.tree.TheConstants.{MAX_FILE_BYTES};
 ghost use Rattle.tree_io.specs.Entries.{IsSmall};
 ghost use Rattle.tree_io.specs.Scans.{OpensScan, under_way};
 ghost use Rattle.tree_io.specs.Sources.{bytes_at};
-ghost use Rattle.godoc.specs.Find.{IsWithin};
 ghost use Rattle.godoc.specs.Outcome.{OpensAtMostOne};
-ghost use Rattle.godoc.specs.Packages.{ArePackages, HasPackageClause, NamesPackage, begins_with_clause, is_package_name, is_package_word, package_path, text_of};
+ghost use Rattle.godoc.specs.Packages.{ArePackages, HasPackageClause, NamesPackage, begins_with_clause, is_package_name, is_package_word, package_path};
 ghost use Rattle.godoc.specs.Serving.{IsEdition};
 ghost use Rattle.godoc.specs.Steps.{IsGathered};
 

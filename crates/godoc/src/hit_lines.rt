@@ -3,13 +3,13 @@
 ghost use Rattle.std.specs.Prelude.{◌≡◌, ◌++◌, ◌≤◌, All, IfOk, OnOk, length, slice_range};
 ghost use Rattle.std.specs.Str.{bytes_eq};
 ghost use Rattle.go_ast.specs.Position.{line_starts};
+ghost use Rattle.go_ast.specs.Tokens.{IsWithin};
 ghost use Rattle.tree_io.specs.Entries.{IsSmall};
 ghost use Rattle.tree_io.specs.declared.tree.TheConstants.{MAX_FILE_BYTES};
-ghost use Rattle.godoc.specs.Find.{FindsAt, FindsIn, hit_lines, is_hit, line_for, position_line, IsWithin};
+ghost use Rattle.godoc.specs.Find.{FindsAt, FindsIn, hit_lines, is_hit, line_for, position_line};
 
-use crate::position::{Position, position_of};
 use go_ast::{Mem, NoMemory, Refused, Token, TokenKind};
-use go_scanner::scan;
+use go_scanner::{Position, position_of, scan};
 use std::alloc::Global;
 use text_out::Text;
 use tree_io::Entry;
@@ -80,7 +80,6 @@ fn token_lines(
 }
 
 /// The lines of a source: those of its reading, and none where it has no reading.
-#[tactic(auto, using(crate::proofs::HitLines::all_within))]
 fn source_lines(alloc: Global, name: &str, path: &str, source: &[u8]) -> Mem<Vec<u8>>
     requires { length source.now ≤ MAX_FILE_BYTES }
     ensures { IfOk result (λ lines. FindsIn name.now path.now source.now lines.items) }

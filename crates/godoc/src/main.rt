@@ -15,7 +15,6 @@ mod edition;
 mod find;
 mod hit_lines;
 mod pages;
-mod position;
 mod run;
 mod site;
 mod status;

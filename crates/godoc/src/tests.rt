@@ -65,7 +65,7 @@ fn finds_in_the_order_of_the_paths(rt: HostRuntime) -> Result<(), Fail> {
         (".x/x.go", b"p"),
         ("_x/x.go", b"p"),
         ("c.txt", b"p"),
-        ("faulty.go", b"p 0x1"),
+        ("faulty.go", b"p 08"),
         ("a.go", b"\"p\" // p\np.p"),
     ];
     let mut tree = tree_of(rt.alloc(), &files, &[])?;

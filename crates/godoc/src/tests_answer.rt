@@ -199,7 +199,7 @@ fn lists_the_folders_that_name_a_package(rt: HostRuntime) -> Result<(), Fail> {
         ("net/url/u.go", b"package url"),
         ("net-x/n.go", b"package x"),
         ("a b&c/é/d.go", b"package d"),
-        ("faulty/f.go", b"package f\nvar x = 0x1"),
+        ("faulty/f.go", b"package f\nvar x = 08"),
         ("blank/b.go", b"package _"),
         ("other/o.go", b"import p"),
         ("short/s.go", b"package"),

@@ -1,10 +1,9 @@
 use Rattle.std.proofs.Common.{◌≡◌, ◌∙◌, ap, sym}
 use Rattle.godoc.specs.Packages.{begins_with_clause}
-use Rattle.godoc.proofs.HitLines.{all_within}
 use Rattle.godoc.proofs.edition.names_package.Goals as goal
 
 pub begins_with_clause-requires : goal.begins_with_clause-requires
-begins_with_clause-requires c = rw c.as_slice.ensures (all_within _ 0 _ c.in-Ok.ensures.spans)
+begins_with_clause-requires c = rw c.as_slice.ensures c.in-Ok.ensures.within
 
 pub returns-in-Ok : goal.returns-in-Ok
 returns-in-Ok c =
