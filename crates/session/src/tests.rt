@@ -201,7 +201,7 @@ fn a_request_that_closes_is_answered_last(rt: HostRuntime) -> Result<(), Fail> {
         b"GET /a HTTP/1.0\n\n",
     ];
     for (place, stream) in streams.iter().enumerate() {
-        let (end, held) = serve_stream(alloc, stream, &[3], 0, 9, 0)?;
+        let (end, held) = serve_stream(&rt, alloc, stream, &[3], 0, 9, 0)?;
         assert_eq!(rt; end, SessionEnd::Closed, "row {place}");
         assert_eq!(rt;
             held.as_slice(),
