@@ -3,6 +3,7 @@ use crate::status::Status;
 use go_ast::{Bytes, Seq, Txt};
 use link_io::{MemSink, MemSource};
 use std::alloc::Global;
+use std::sync::Wait;
 use std::test::Fail;
 use tree_io::MemTree;
 
@@ -29,14 +30,14 @@ fn words_of(alloc: Global, words: &[&str]) -> Result<Vec<String>, Fail> {
 }
 
 /// How a run ended over a tree, and what it wrote, by at most `most` bytes a write.
-fn run_on(
-    rt: &HostRuntime,
+fn run_on<R: Wait>(
+    rt: &R,
+    alloc: Global,
     words: &[&str],
     tree: &mut MemTree,
     most: usize,
     failing_writes: &[u64],
 ) -> Result<(Status, Vec<u8>), Fail> {
-    let alloc = rt.alloc();
     let words = words_of(alloc, words)?;
     let mut input = MemSource::new(Vec::new(alloc), Vec::new(alloc), Vec::new(alloc));
     let mut out = MemSink::new(alloc, most.max(1), Vec::from_slice(alloc, failing_writes)?);
@@ -49,7 +50,7 @@ const TWO_HITS: &[u8] = b"package e\n// err is here\nvar err, s = f(err), \"err\
 #[test]
 fn finds_identifiers_alone(rt: HostRuntime) -> Result<(), Fail> {
     let mut tree = tree_of(rt.alloc(), &[("e.go", TWO_HITS)], &[])?;
-    let (status, written) = run_on(&rt, &["find", "err"], &mut tree, 4096, &[])?;
+    let (status, written) = run_on(&rt, rt.alloc(), &["find", "err"], &mut tree, 4096, &[])?;
     assert_eq!(rt; status, Status::Done);
     assert_eq!(rt; written.as_slice(), b"e.go:3:5\ne.go:3:16\n".as_slice());
     Ok(())
@@ -69,7 +70,7 @@ fn finds_in_the_order_of_the_paths(rt: HostRuntime) -> Result<(), Fail> {
         ("a.go", b"\"p\" // p\np.p"),
     ];
     let mut tree = tree_of(rt.alloc(), &files, &[])?;
-    let (status, written) = run_on(&rt, &["find", "p"], &mut tree, 1, &[])?;
+    let (status, written) = run_on(&rt, rt.alloc(), &["find", "p"], &mut tree, 1, &[])?;
     assert_eq!(rt; status, Status::Done);
     let wanted = b"a.go:2:1\na.go:2:3\na/c.go:1:1\na/c.go:2:3\nb.go:1:1\n";
     assert_eq!(rt; written.as_slice(), wanted.as_slice());
@@ -80,7 +81,7 @@ fn finds_in_the_order_of_the_paths(rt: HostRuntime) -> Result<(), Fail> {
 fn passes_over_what_fails_to_be_read(rt: HostRuntime) -> Result<(), Fail> {
     let files: [(&str, &[u8]); 2] = [("a.go", b"x"), ("b.go", b"x")];
     let mut tree = tree_of(rt.alloc(), &files, &[3])?;
-    let (status, written) = run_on(&rt, &["find", "x"], &mut tree, 4096, &[])?;
+    let (status, written) = run_on(&rt, rt.alloc(), &["find", "x"], &mut tree, 4096, &[])?;
     assert_eq!(rt; status, Status::Done);
     assert_eq!(rt; written.as_slice(), b"b.go:1:1\n".as_slice());
     Ok(())
@@ -90,7 +91,7 @@ fn passes_over_what_fails_to_be_read(rt: HostRuntime) -> Result<(), Fail> {
 fn tells_a_tree_that_fails(rt: HostRuntime) -> Result<(), Fail> {
     for call in [1, 2] {
         let mut tree = tree_of(rt.alloc(), &[("e.go", TWO_HITS)], &[call])?;
-        let (status, written) = run_on(&rt, &["find", "err"], &mut tree, 4096, &[])?;
+        let (status, written) = run_on(&rt, rt.alloc(), &["find", "err"], &mut tree, 4096, &[])?;
         assert_eq!(rt; status, Status::TreeFault);
         assert!(rt; written.is_empty());
     }
@@ -101,7 +102,7 @@ fn tells_a_tree_that_fails(rt: HostRuntime) -> Result<(), Fail> {
 fn tells_an_output_that_fails(rt: HostRuntime) -> Result<(), Fail> {
     for (call, wanted) in [(1, b"".as_slice()), (2, b"e.go:"), (4, b"e.go:3:5\ne.go:3")] {
         let mut tree = tree_of(rt.alloc(), &[("e.go", TWO_HITS)], &[])?;
-        let (status, written) = run_on(&rt, &["find", "err"], &mut tree, 5, &[call])?;
+        let (status, written) = run_on(&rt, rt.alloc(), &["find", "err"], &mut tree, 5, &[call])?;
         assert_eq!(rt; status, Status::WriteFault);
         assert_eq!(rt; written.as_slice(), wanted);
     }
@@ -124,7 +125,7 @@ fn refuses_other_words(rt: HostRuntime) -> Result<(), Fail> {
         &["gen", "1"],
     ] {
         let mut tree = tree_of(rt.alloc(), &[("e.go", TWO_HITS)], &[1, 2, 3])?;
-        let (status, written) = run_on(&rt, words, &mut tree, 4096, &[1])?;
+        let (status, written) = run_on(&rt, rt.alloc(), words, &mut tree, 4096, &[1])?;
         assert_eq!(rt; status, Status::Usage, "{words:?}");
         assert!(rt; written.is_empty());
     }
@@ -134,7 +135,7 @@ fn refuses_other_words(rt: HostRuntime) -> Result<(), Fail> {
 #[test]
 fn takes_an_underscore_for_a_name(rt: HostRuntime) -> Result<(), Fail> {
     let mut tree = tree_of(rt.alloc(), &[("e.go", b"var _ = _x")], &[])?;
-    let (status, written) = run_on(&rt, &["find", "_"], &mut tree, 4096, &[])?;
+    let (status, written) = run_on(&rt, rt.alloc(), &["find", "_"], &mut tree, 4096, &[])?;
     assert_eq!(rt; status, Status::Done);
     assert_eq!(rt; written.as_slice(), b"e.go:1:5\n".as_slice());
     Ok(())

@@ -3,6 +3,7 @@ use crate::status::Status;
 use go_ast::{Bytes, Seq, Txt};
 use link_io::{MemSink, MemSource};
 use std::alloc::Global;
+use std::sync::Wait;
 use std::test::Fail;
 use tree_io::MemTree;
 
@@ -44,8 +45,7 @@ fn tree_of(alloc: Global, given: Given) -> Result<MemTree, Fail> {
 }
 
 /// How `answer` ended, and what it wrote, by at most 100 bytes a write.
-fn answer_to(rt: &HostRuntime, given: Given) -> Result<(Status, Vec<u8>), Fail> {
-    let alloc = rt.alloc();
+fn answer_to<R: Wait>(rt: &R, alloc: Global, given: Given) -> Result<(Status, Vec<u8>), Fail> {
     let mut words = Vec::new(alloc);
     words.push(String::from_str(alloc, "answer")?)?;
     let mut tree = tree_of(alloc, given)?;
@@ -91,7 +91,7 @@ const BAD: &[u8] =
 
 #[test]
 fn lists_no_package_of_an_empty_tree(rt: HostRuntime) -> Result<(), Fail> {
-    let (status, written) = answer_to(&rt, Given::input(LIST_REQUEST))?;
+    let (status, written) = answer_to(&rt, rt.alloc(), Given::input(LIST_REQUEST))?;
     assert_eq!(rt; status, Status::Done);
     let wanted = joined(rt.alloc(), &[EMPTY_LIST_HEAD, EMPTY_LIST])?;
     assert_eq!(rt; written.as_slice(), wanted.as_slice());
@@ -108,7 +108,7 @@ fn answers_the_same_wherever_the_input_is_cut(rt: HostRuntime) -> Result<(), Fai
             cuts: &[cut],
             ..Given::input(input)
         };
-        let (status, written) = answer_to(&rt, given)?;
+        let (status, written) = answer_to(&rt, rt.alloc(), given)?;
         assert_eq!(rt; status, Status::Done, "cut at {cut}");
         assert_eq!(rt; written.as_slice(), wanted.as_slice(), "cut at {cut}");
     }
@@ -119,7 +119,7 @@ fn answers_the_same_wherever_the_input_is_cut(rt: HostRuntime) -> Result<(), Fai
 fn a_bad_target_leaves_the_connection_open(rt: HostRuntime) -> Result<(), Fail> {
     let input =
         b"GET /search HTTP/1.1\r\nHost: a\r\n\r\nGET http://a/pkg HTTP/1.1\r\nHost: a\r\n\r\n";
-    let (status, written) = answer_to(&rt, Given::input(input.as_slice()))?;
+    let (status, written) = answer_to(&rt, rt.alloc(), Given::input(input.as_slice()))?;
     assert_eq!(rt; status, Status::Done);
     let wanted = joined(rt.alloc(), &[BAD_TARGET, EMPTY_LIST_HEAD, EMPTY_LIST])?;
     assert_eq!(rt; written.as_slice(), wanted.as_slice());
@@ -129,7 +129,7 @@ fn a_bad_target_leaves_the_connection_open(rt: HostRuntime) -> Result<(), Fail> 
 #[test]
 fn version_1_0_closes_after_its_reply(rt: HostRuntime) -> Result<(), Fail> {
     let input = b"GET /pkg/ HTTP/1.0\r\n\r\nGET /pkg/ HTTP/1.0\r\n\r\n".as_slice();
-    let (status, written) = answer_to(&rt, Given::input(input))?;
+    let (status, written) = answer_to(&rt, rt.alloc(), Given::input(input))?;
     assert_eq!(rt; status, Status::Done);
     let wanted = joined(
         rt.alloc(),
@@ -151,7 +151,7 @@ fn refuses_what_cannot_be_a_request(rt: HostRuntime) -> Result<(), Fail> {
         b"GET / HT".as_slice(),
         b"GET / HTTP/1.1\r\n\r\n".as_slice(),
     ] {
-        let (status, written) = answer_to(&rt, Given::input(input))?;
+        let (status, written) = answer_to(&rt, rt.alloc(), Given::input(input))?;
         assert_eq!(rt; status, Status::Done);
         assert_eq!(rt; written.as_slice(), BAD);
     }
@@ -161,7 +161,7 @@ fn refuses_what_cannot_be_a_request(rt: HostRuntime) -> Result<(), Fail> {
 #[test]
 fn allows_two_methods(rt: HostRuntime) -> Result<(), Fail> {
     let input = b"POST / HTTP/1.1\r\nHost: a\r\n\r\nPOST /pkg/ HTTP/1.1\r\nHost: a\r\n\r\n";
-    let (status, written) = answer_to(&rt, Given::input(input.as_slice()))?;
+    let (status, written) = answer_to(&rt, rt.alloc(), Given::input(input.as_slice()))?;
     assert_eq!(rt; status, Status::Done);
     let wanted = joined(rt.alloc(), &[NOT_ALLOWED, NOT_ALLOWED])?;
     assert_eq!(rt; written.as_slice(), wanted.as_slice());
@@ -184,7 +184,7 @@ fn closes_after_a_thousand_replies(rt: HostRuntime) -> Result<(), Fail> {
         b"HTTP/1.1 200 OK\r\nContent-Type: text/html; charset=utf-8\r\nContent-Length: 131\r\nGodoc-Edition: 1\r\nConnection: close\r\n\r\n";
     wanted.extend_from_slice(last)?;
     wanted.extend_from_slice(EMPTY_LIST)?;
-    let (status, written) = answer_to(&rt, Given::input(input.as_slice()))?;
+    let (status, written) = answer_to(&rt, rt.alloc(), Given::input(input.as_slice()))?;
     assert_eq!(rt; status, Status::Done);
     assert_eq!(rt; written.as_slice(), wanted.as_slice());
     Ok(())
@@ -209,7 +209,7 @@ fn lists_the_folders_that_name_a_package(rt: HostRuntime) -> Result<(), Fail> {
         files: &files,
         ..Given::input(LIST_REQUEST)
     };
-    let (status, written) = answer_to(&rt, given)?;
+    let (status, written) = answer_to(&rt, rt.alloc(), given)?;
     assert_eq!(rt; status, Status::Done);
     let page =
         b"HTTP/1.1 200 OK\r\nContent-Type: text/html; charset=utf-8\r\nContent-Length: 356\r\nGodoc-Edition: 1\r\n\r\n<!DOCTYPE html>\n<html><head><meta charset=\"utf-8\"><title>Packages</title></head><body>\n<h1>Packages</h1>\n<ul>\n<li><a href=\"/pkg/_/\">_</a></li>\n<li><a href=\"/pkg/a%20b%26c/%C3%A9/\">a b&amp;c/\xc3\xa9</a></li>\n<li><a href=\"/pkg/net-x/\">net-x</a></li>\n<li><a href=\"/pkg/net/http/\">net/http</a></li>\n<li><a href=\"/pkg/net/url/\">net/url</a></li>\n</ul>\n</body></html>\n";
@@ -234,7 +234,7 @@ fn tells_which_part_failed(rt: HostRuntime) -> Result<(), Fail> {
             failing_writes,
             ..Given::input(LIST_REQUEST)
         };
-        let (status, written) = answer_to(&rt, given)?;
+        let (status, written) = answer_to(&rt, rt.alloc(), given)?;
         assert_eq!(rt; status, wanted);
         assert_eq!(rt; written.len(), length);
     }
