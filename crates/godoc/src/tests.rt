@@ -118,7 +118,7 @@ fn refuses_other_words(rt: HostRuntime) -> Result<(), Fail> {
         &["find", "func"],
         &["find", ""],
         &["find", "a-b"],
-        &["find", "é"],
+        &["find", "\u{2167}"],
         &["find", "x", "y"],
         &["fine", "x"],
         &["--workers", "65", "find", "x"],
