@@ -6,8 +6,7 @@ ghost use Rattle.std.specs.Str.{bytes_eq};
 ghost use Rattle.tree_io.specs.Path.{Belongs, HasSourcePaths, paths_of};
 ghost use Rattle.tree_io.specs.Sources.{bytes_at, entry_of, IsReadable};
 ghost use Rattle.tree_io.specs.MemTree.{IsTold};
-ghost use Rattle.tree_io.specs.Files.{files_of, scans_of};
-ghost use Rattle.tree_io.specs.Scans as scans;
+ghost use Rattle.tree_io.specs.Files.{files_of, files_under_way};
 
 use crate::path::belongs;
 use crate::tree::{Entry, MAX_FILE_BYTES};
@@ -16,10 +15,10 @@ use std::alloc::Global;
 use std::collections::BTreeMap;
 
 /// The files of a version, by their paths.
-pub(crate) type Files = BTreeMap<String, Bytes>;
+pub(crate) type Version = BTreeMap<String, Bytes>;
 
 /// The files that are told of a version: of the paths that belong, each once, with its first bytes.
-pub(crate) fn told_files(alloc: Global, mut version: Seq<(Txt, Bytes)>) -> Mem<Files>
+pub(crate) fn told_files(alloc: Global, mut version: Seq<(Txt, Bytes)>) -> Mem<Version>
     ensures { IfOk result (λ files. IsTold version (files_of files)) }
 {
     let mut files = BTreeMap::new(alloc);
@@ -31,7 +30,7 @@ pub(crate) fn told_files(alloc: Global, mut version: Seq<(Txt, Bytes)>) -> Mem<F
 }
 
 /// Puts bytes at a path, in place of those that it had, unless the path doesn't belong.
-fn put_file(files: &mut Files, path: Txt, bytes: Bytes) -> Mem<()>
+fn put_file(files: &mut Version, path: Txt, bytes: Bytes) -> Mem<()>
     requires { HasSourcePaths (files_of files.old) }
     ensures paths { OnOk result (HasSourcePaths (files_of files.new)) }
     ensures put { OnOk result ((wanted : _) → Belongs wanted → bytes_at (files_of files.new) wanted
@@ -44,9 +43,9 @@ fn put_file(files: &mut Files, path: Txt, bytes: Bytes) -> Mem<()>
 }
 
 /// The files of the last of so many scans, where there is a scan and a version.
-fn under_way(versions: &[Files], opened: usize) -> Option<&Files>
-    ensures { MatchOption result (scans.under_way (scans_of (map files_of versions.now) opened) ≡ [])
-        (λ files. files_of files.now ≡ scans.under_way (scans_of (map files_of versions.now) opened)) }
+fn under_way(versions: &[Version], opened: usize) -> Option<&Version>
+    ensures { MatchOption result (files_under_way versions.now opened ≡ [])
+        (λ files. files_of files.now ≡ files_under_way versions.now opened) }
 {
     let place = opened.checked_sub(1)?;
     let last = versions.len().checked_sub(1)?;
@@ -54,8 +53,8 @@ fn under_way(versions: &[Files], opened: usize) -> Option<&Files>
 }
 
 /// The paths of the last of so many scans, rising by their bytes.
-pub(crate) fn list_under_way(alloc: Global, versions: &[Files], opened: usize) -> Mem<Seq<Txt>>
-    ensures { IfOk result (λ paths. paths ≡ paths_of (scans.under_way (scans_of (map files_of versions.now) opened))) }
+pub(crate) fn list_under_way(alloc: Global, versions: &[Version], opened: usize) -> Mem<Seq<Txt>>
+    ensures { IfOk result (λ paths. paths ≡ paths_of (files_under_way versions.now opened)) }
 {
     match under_way(versions, opened) {
         Some(files) => paths(alloc, files),
@@ -64,7 +63,7 @@ pub(crate) fn list_under_way(alloc: Global, versions: &[Files], opened: usize) -
 }
 
 /// The paths of the files, rising by their bytes.
-fn paths(alloc: Global, files: &Files) -> Mem<Seq<Txt>>
+fn paths(alloc: Global, files: &Version) -> Mem<Seq<Txt>>
     ensures { IfOk result (λ paths. paths ≡ paths_of (files_of files.now)) }
 {
     let mut paths = Seq::new(alloc);
@@ -77,12 +76,13 @@ fn paths(alloc: Global, files: &Files) -> Mem<Seq<Txt>>
 /// What a read at a path of the last of so many scans gives.
 pub(crate) fn read_under_way(
     alloc: Global,
-    versions: &[Files],
+    versions: &[Version],
     opened: usize,
     path: &str,
 ) -> Mem<Entry>
-    requires { IsSome (bytes_at (scans.under_way (scans_of (map files_of versions.now) opened)) path.now) }
-    ensures told { IfOk result (λ entry. IfSome (bytes_at (scans.under_way (scans_of (map files_of versions.now) opened)) path.now)
+    requires { IsSome (bytes_at (files_under_way versions.now opened) path.now) }
+    ensures told { IfOk result (λ entry.
+        IfSome (bytes_at (files_under_way versions.now opened) path.now)
         (λ bytes. entry ≡ entry_of bytes)) }
     ensures readable { IfOk result IsReadable }
 {
@@ -91,8 +91,8 @@ pub(crate) fn read_under_way(
 }
 
 /// The bytes at a path of the last of so many scans.
-fn find_under_way<'a>(versions: &'a [Files], opened: usize, path: &str) -> Option<&'a Bytes>
-    ensures { option_copied result ≡ bytes_at (scans.under_way (scans_of (map files_of versions.now) opened)) path.now }
+fn find_under_way<'a>(versions: &'a [Version], opened: usize, path: &str) -> Option<&'a Bytes>
+    ensures { option_copied result ≡ bytes_at (files_under_way versions.now opened) path.now }
 {
     match under_way(versions, opened) {
         Some(files) => find(files, path),
@@ -101,7 +101,7 @@ fn find_under_way<'a>(versions: &'a [Files], opened: usize, path: &str) -> Optio
 }
 
 /// The bytes of the file at a path.
-fn find<'a>(files: &'a Files, path: &str) -> Option<&'a Bytes>
+fn find<'a>(files: &'a Version, path: &str) -> Option<&'a Bytes>
     ensures { option_copied result ≡ bytes_at (files_of files.now) path.now }
 {
     files.get(path)

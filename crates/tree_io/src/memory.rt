@@ -1,6 +1,6 @@
 //! A tree in memory.
 
-use crate::files::{Files, list_under_way, read_under_way, told_files};
+use crate::files::{Version, list_under_way, read_under_way, told_files};
 use crate::tree::{Entry, Tree};
 use plain_data::{Bytes, Failed, FaultCount, IoFail, Mem, NumberedCalls, Seq, Txt};
 use std::alloc::Global;
@@ -12,7 +12,7 @@ use std::marker::Model;
 /// each call there fails.
 #[derive(Drop)]
 pub struct MemTree {
-    versions: Vec<Files>,
+    versions: Vec<Version>,
     opened: usize,
     calls: NumberedCalls,
     list_faults: FaultCount,
@@ -102,7 +102,8 @@ impl Tree for MemTree {
         ensures ok { OnOk result (self.new ≡ after_call self.old) }
         ensures failed { IsErrOf result IoFail.Failed → self.new ≡ list_failed self.old }
         ensures no_memory { IsErrOf result IoFail.NoMemory → self.new ≡ after_call self.old }
-        ensures told { IfOk result (λ paths. paths ≡ paths_of (scans_told.under_way self.old.scans)) }
+        ensures told { IfOk result (λ paths.
+            paths ≡ paths_of (scans_told.under_way self.old.scans)) }
         ensures belong { IfOk result (All Belongs) }
         ensures rising { IfOk result IsRising }
         ensures cause { HasIoCause self.old.list_faults self.new.list_faults result }
@@ -120,7 +121,8 @@ impl Tree for MemTree {
         ensures ok { OnOk result (self.new ≡ after_call self.old) }
         ensures failed { IsErrOf result IoFail.Failed → self.new ≡ read_failed self.old }
         ensures no_memory { IsErrOf result IoFail.NoMemory → self.new ≡ after_call self.old }
-        ensures told { IfOk result (λ entry. IfSome (bytes_at (scans_told.under_way self.old.scans) path.now)
+        ensures told { IfOk result (λ entry.
+            IfSome (bytes_at (scans_told.under_way self.old.scans) path.now)
             (λ bytes. entry ≡ entry_of bytes)) }
         ensures readable { IfOk result IsReadable }
         ensures cause { HasIoCause self.old.read_faults self.new.read_faults result }

@@ -64,7 +64,8 @@ fn long_path(alloc: Global, length: usize) -> Result<String, Fail> {
 fn scan<T: Tree>(alloc: Global, tree: &mut T) -> Result<Seq<(Txt, Entry)>, IoFail>
     ensures sources { IfOk result IsSources }
     ensures scanned { IfOk result (λ sources. IfSome (T.scans tree.new)
-        (λ told. IsScannedFrom sources (under_way told) (T.read_faults tree.old) (T.read_faults tree.new))) }
+        (λ told. IsScannedFrom sources (under_way told)
+        (T.read_faults tree.old) (T.read_faults tree.new))) }
 {
     if tree.open_scan().is_err() {
         return Err(IoFail::Failed);
