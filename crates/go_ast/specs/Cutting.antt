@@ -1,5 +1,6 @@
 -- Brackets, and lists that are cut at separators outside brackets. Public clauses cite these.
-use Rattle.std.specs.Prelude.{◌≡◌, ℕ, zero, suc, ◌-◌, Bool, true, false, ◌&&◌, not, List, [], ◌∷◌, ◌++◌, length, if◌then◌else◌, ◌==◌, unwrap_or, slice_get, ⊤}
+use Rattle.std.specs.Prelude.{◌≡◌, ℕ, suc, ◌-◌, Bool, true, false, ◌&&◌, not, List, [], ◌∷◌, ◌++◌}
+use Rattle.std.specs.Prelude.{length, if◌then◌else◌, ◌==◌, unwrap_or, slice_get, ⊤}
 use Rattle.go_ast.specs.declared.token.TokenRange.{TokenRange}
 use Rattle.go_ast.specs.declared.word.Word.{Word}
 use Rattle.go_ast.specs.declared.word.Mark.{Mark}
@@ -8,24 +9,28 @@ use Rattle.go_ast.specs.Marks.{opens, closes, same_mark}
 
 -- how many brackets are open after a mark, where so many are open before it
 abbrev pub depth_after : ℕ → Mark → ℕ
-depth_after depth mark = if opens mark then suc depth else (if closes mark then depth - 1 else depth)
+depth_after depth mark =
+    if opens mark then suc depth else (if closes mark then depth - 1 else depth)
 
 -- each bracket that these words open is closed among them, and no other is
 abbrev pub Nests : ℕ → List Word → Type 0
 Nests depth [] = depth ≡ 0
 Nests depth (w ∷ ws) = (depth ≡ 0 → closes w.mark ≡ false) × Nests (depth_after depth w.mark) ws
 
--- the first words are an opening bracket, what it encloses, and the closing bracket; then others follow
+-- the first words are an opening bracket, what it encloses, and the closing bracket; then others
+-- follow
 pub data Encloses (opening closing : Mark) : List Word → List Word → List Word → Type 0 where
-  encloses : (o c : Word) (inner rest : List Word) → o.mark ≡ opening → c.mark ≡ closing → Nests 0 inner
+  encloses : (o c : Word) (inner rest : List Word) → o.mark ≡ opening → c.mark ≡ closing
+      → Nests 0 inner
       → Encloses opening closing (o ∷ inner ++ c ∷ rest) inner rest
 
--- the words, cut at the separators outside brackets, with the words before them that are in no piece
--- yet; where nothing follows the last separator, no piece does
+-- the words, cut at the separators outside brackets, with the words before them that are in no
+-- piece yet; where nothing follows the last separator, no piece does
 abbrev pub pieces_from : Mark → ℕ → List Word → List Word → List (List Word)
 pieces_from mark depth [] [] = []
 pieces_from mark depth (v ∷ vs) [] = (v ∷ vs) ∷ []
-pieces_from mark depth front (w ∷ ws) = if depth == 0 && same_mark w.mark mark then front ∷ pieces_from mark 0 [] ws
+pieces_from mark depth front (w ∷ ws) =
+    if depth == 0 && same_mark w.mark mark then front ∷ pieces_from mark 0 [] ws
     else pieces_from mark (depth_after depth w.mark) (front ++ w ∷ []) ws
 
 unfoldable pub pieces : Mark → List Word → List (List Word)
@@ -52,15 +57,17 @@ closing_of m.OpenParen = m.CloseParen
 closing_of m.OpenBracket = m.CloseBracket
 closing_of _ = m.CloseBrace
 
--- the words close the brackets that are open, whose closing marks are these from the innermost on, and
--- each that they open, each by its own kind; no semicolon stands outside brackets
+-- the words close the brackets that are open, whose closing marks are these from the innermost on,
+-- and each that they open, each by its own kind; no semicolon stands outside brackets
 abbrev pub balanced : List Mark → List Word → Bool
 balanced [] [] = true
 balanced (mark ∷ others) [] = false
 balanced [] (w ∷ ws) = if opens w.mark then balanced (closing_of w.mark ∷ []) ws
     else not (closes w.mark) && not (same_mark w.mark m.Semi) && balanced [] ws
-balanced (mark ∷ others) (w ∷ ws) = if opens w.mark then balanced (closing_of w.mark ∷ mark ∷ others) ws
-    else if closes w.mark then same_mark w.mark mark && balanced others ws else balanced (mark ∷ others) ws
+balanced (mark ∷ others) (w ∷ ws) =
+    if opens w.mark then balanced (closing_of w.mark ∷ mark ∷ others) ws
+    else if closes w.mark then same_mark w.mark mark && balanced others ws
+    else balanced (mark ∷ others) ws
 
 -- the words are three dots alone
 abbrev pub is_ellipsis_alone : List Word → Bool
@@ -68,6 +75,7 @@ is_ellipsis_alone [] = false
 is_ellipsis_alone (w ∷ []) = same_mark w.mark m.Ellipsis
 is_ellipsis_alone (w ∷ v ∷ vs) = false
 
--- a length between brackets: balanced, with no semicolon outside its own brackets, and not three dots
+-- a length between brackets: balanced, with no semicolon outside its own brackets, and not three
+-- dots
 unfoldable pub is_run : List Word → Bool
 is_run ws = balanced [] ws && not (is_ellipsis_alone ws)

@@ -1,24 +1,34 @@
 -- The items of a source: white space, comments, and the spellings of tokens (The Go Programming
 -- Language Specification, "Lexical elements"). Each form is a tree, a printer from the tree to its
--- bytes, and a fact that says which trees are valid and where they stand. Public clauses cite these.
-use Rattle.std.specs.Prelude.{◌≡◌, ℕ, ◌≤◌, ◌⊎◌, Bool, true, false, ◌&&◌, ◌||◌, not, List, [], ◌∷◌, ◌++◌, length, if◌then◌else◌, ◌==◌, nat_eq, IsTrue, All, MatchBool, codes, ⊤}
+-- bytes, and a fact that says which trees are valid and where they stand. Public clauses cite
+-- these.
+use Rattle.std.specs.Prelude.{◌≡◌, ℕ, ◌≤◌, ◌⊎◌, Bool, true, false, ◌&&◌, ◌||◌, not, List, [], ◌∷◌}
+use Rattle.std.specs.Prelude.{◌++◌, length, if◌then◌else◌, ◌==◌, nat_eq, IsTrue, All, MatchBool}
+use Rattle.std.specs.Prelude.{codes, ⊤}
 use Rattle.std.specs.List.{list_all, starts_with}
 use Rattle.std.specs.Char.{is_ascii_alphanumeric, is_ascii_digit}
 use Rattle.std.specs.Str.{all_scalars, encode_utf8_all}
 use Rattle.go_chars.specs.Identifiers.{is_among, is_identifier, keywords}
-use Rattle.go_ast.specs.Characters.{Begins, newline, carriage_return, double_quote, single_quote, back_quote, full_stop, underscore, byte_order_mark_bytes, is_white_space}
-use Rattle.go_ast.specs.Numbers.{Integer, print_integer, is_integer, Float, print_float, is_float, Imaginary, print_imaginary, is_imaginary, is_exponent_mark}
+use Rattle.go_ast.specs.Characters.{Begins, newline, carriage_return, double_quote, single_quote}
+use Rattle.go_ast.specs.Characters.{back_quote, full_stop, underscore, byte_order_mark_bytes}
+use Rattle.go_ast.specs.Characters.{is_white_space}
+use Rattle.go_ast.specs.Numbers.{Integer, print_integer, is_integer, Float, print_float, is_float}
+use Rattle.go_ast.specs.Numbers.{Imaginary, print_imaginary, is_imaginary, is_exponent_mark}
 use Rattle.go_ast.specs.Texts.{Element, print_element, print_elements, is_element}
 
 -- "Operators and punctuation", but for the semicolon
 unfoldable pub operators : List (List ℕ)
 operators =
     codes "<<=" ∷ codes ">>=" ∷ codes "&^=" ∷ codes "..."
-    ∷ codes "<<" ∷ codes ">>" ∷ codes "&^" ∷ codes "+=" ∷ codes "-=" ∷ codes "*=" ∷ codes "/=" ∷ codes "%=" ∷ codes "&=" ∷ codes "|="
-    ∷ codes "^=" ∷ codes "&&" ∷ codes "||" ∷ codes "<-" ∷ codes "++" ∷ codes "--" ∷ codes "==" ∷ codes "!=" ∷ codes "<="
+    ∷ codes "<<" ∷ codes ">>" ∷ codes "&^" ∷ codes "+=" ∷ codes "-=" ∷ codes "*=" ∷ codes "/="
+    ∷ codes "%=" ∷ codes "&=" ∷ codes "|="
+    ∷ codes "^=" ∷ codes "&&" ∷ codes "||" ∷ codes "<-" ∷ codes "++" ∷ codes "--" ∷ codes "=="
+    ∷ codes "!=" ∷ codes "<="
     ∷ codes ">=" ∷ codes ":="
-    ∷ codes "+" ∷ codes "-" ∷ codes "*" ∷ codes "/" ∷ codes "%" ∷ codes "&" ∷ codes "|" ∷ codes "^" ∷ codes "<" ∷ codes ">" ∷ codes "="
-    ∷ codes "!" ∷ codes "~" ∷ codes "(" ∷ codes ")" ∷ codes "[" ∷ codes "]" ∷ codes "{" ∷ codes "}" ∷ codes "," ∷ codes "." ∷ codes ":"
+    ∷ codes "+" ∷ codes "-" ∷ codes "*" ∷ codes "/" ∷ codes "%" ∷ codes "&" ∷ codes "|" ∷ codes "^"
+    ∷ codes "<" ∷ codes ">" ∷ codes "="
+    ∷ codes "!" ∷ codes "~" ∷ codes "(" ∷ codes ")" ∷ codes "[" ∷ codes "]" ∷ codes "{" ∷ codes "}"
+    ∷ codes "," ∷ codes "." ∷ codes ":"
     ∷ []
 
 -- how a token is spelled ("Tokens")
@@ -50,7 +60,8 @@ is_raw b = not (b == back_quote)
 
 abbrev pub IsSpelling : Spelling → Type 0
 IsSpelling (identifier characters) =
-    IsTrue (is_identifier characters) × IsTrue (all_scalars characters) × (is_among keywords (encode_utf8_all characters) ≡ false)
+    IsTrue (is_identifier characters) × IsTrue (all_scalars characters)
+    × (is_among keywords (encode_utf8_all characters) ≡ false)
 IsSpelling (keyword word) = IsTrue (is_among keywords word)
 IsSpelling (operator mark) = IsTrue (is_among operators mark)
 IsSpelling (integer literal) = IsTrue (is_integer literal)
@@ -65,18 +76,21 @@ IsSpelling semicolon = ⊤
 abbrev pub is_run_byte : ℕ → Bool
 is_run_byte b = is_ascii_alphanumeric b || b == underscore || b == full_stop
 
--- whether a byte belongs to the run of a number after the byte before it: a sign does directly after
--- the letter that marks the exponent
+-- whether a byte belongs to the run of a number after the byte before it: a sign does directly
+-- after the letter that marks the exponent
 abbrev pub goes_on : Bool → ℕ → ℕ → Bool
-goes_on hexadecimal before b = is_run_byte b || ((b == 43 || b == 45) && is_exponent_mark hexadecimal before)
+goes_on hexadecimal before b =
+    is_run_byte b || ((b == 43 || b == 45) && is_exponent_mark hexadecimal before)
 
 -- the bytes that belong to the run after the byte before them
 abbrev pub run_after : Bool → ℕ → List ℕ → List ℕ
 run_after hexadecimal before [] = []
-run_after hexadecimal before (b ∷ bytes) = if goes_on hexadecimal before b then b ∷ run_after hexadecimal b bytes else []
+run_after hexadecimal before (b ∷ bytes) =
+    if goes_on hexadecimal before b then b ∷ run_after hexadecimal b bytes else []
 
 abbrev pub is_hexadecimal : List ℕ → Bool
-is_hexadecimal bytes = starts_with nat_eq bytes (codes "0x") || starts_with nat_eq bytes (codes "0X")
+is_hexadecimal bytes =
+    starts_with nat_eq bytes (codes "0x") || starts_with nat_eq bytes (codes "0X")
 
 -- the longest run of bytes that a number may have, which goes beyond the numbers themselves
 unfoldable pub number_run : List ℕ → List ℕ
@@ -97,7 +111,8 @@ is_number _ = false
 
 -- a number stands for the whole run that begins there
 abbrev pub IsWholeRun : Spelling → List ℕ → Type 0
-IsWholeRun spelling bytes = IsTrue (is_number spelling) × (number_run bytes ≡ print_spelling spelling)
+IsWholeRun spelling bytes =
+    IsTrue (is_number spelling) × (number_run bytes ≡ print_spelling spelling)
 
 -- no spelling that the bytes begin with is longer
 abbrev pub IsLongest : Spelling → List ℕ → Type 0
@@ -107,7 +122,8 @@ IsLongest spelling bytes =
 
 -- a comment of either form begins here ("Comments")
 abbrev pub begins_comment : List ℕ → Bool
-begins_comment bytes = starts_with nat_eq bytes (codes "//") || starts_with nat_eq bytes (codes "/*")
+begins_comment bytes =
+    starts_with nat_eq bytes (codes "//") || starts_with nat_eq bytes (codes "/*")
 
 -- "*/" stands somewhere in the bytes
 abbrev pub has_comment_end : List ℕ → Bool
@@ -116,7 +132,8 @@ has_comment_end (b ∷ bytes) = starts_with nat_eq (b ∷ bytes) (codes "*/") ||
 
 -- a general comment begins here that has no end
 abbrev pub IsOpenComment : List ℕ → Type 0
-IsOpenComment bytes = (content : List ℕ) × (bytes ≡ codes "/*" ++ content) × (has_comment_end content ≡ false)
+IsOpenComment bytes = (content : List ℕ) × (bytes ≡ codes "/*" ++ content)
+    × (has_comment_end content ≡ false)
 
 -- an item of a source: a character of white space, a comment, or a spelling
 pub data Item : Type 0 where
@@ -133,8 +150,8 @@ print_item (line_comment content) = codes "//" ++ content
 print_item (general_comment content) = codes "/*" ++ content ++ codes "*/"
 print_item (spelled spelling) = print_spelling spelling
 
--- a line comment ends before the newline, and before a carriage return directly before the newline, or
--- with the source
+-- a line comment ends before the newline, and before a carriage return directly before the newline,
+-- or with the source
 abbrev pub EndsComment : List ℕ → List ℕ → Type 0
 EndsComment content [] = ⊤
 EndsComment content (b ∷ rest) =
@@ -145,13 +162,14 @@ pub record IsLineComment (content rest : List ℕ) : Type 0 where
   pub one_line : All (λ b. IsTrue (not (b == newline))) content
   pub end : EndsComment content rest
 
--- a spelling stands before the rest: where a comment begins there is none, where the run of a number
--- begins only the number that is the whole run, and else the longest
+-- a spelling stands before the rest: where a comment begins there is none, where the run of a
+-- number begins only the number that is the whole run, and else the longest
 pub record IsSpelled (spelling : Spelling) (rest : List ℕ) : Type 0 where
   pub valid : IsSpelling spelling
   pub no_comment : begins_comment (print_spelling spelling ++ rest) ≡ false
   pub extent : MatchBool (begins_number (print_spelling spelling ++ rest))
-      (IsWholeRun spelling (print_spelling spelling ++ rest)) (IsLongest spelling (print_spelling spelling ++ rest))
+      (IsWholeRun spelling (print_spelling spelling ++ rest))
+      (IsLongest spelling (print_spelling spelling ++ rest))
 
 -- an item stands at a byte offset, before the rest of the source
 abbrev pub Stands : ℕ → Item → List ℕ → Type 0

@@ -1,6 +1,7 @@
--- What tokens are to the grammar of types and declarations: keywords, operators and brackets by their
--- spellings. Public clauses cite these.
-use Rattle.std.specs.Prelude.{ℕ, suc, ◌+◌, ◌-◌, Bool, true, false, List, [], ◌∷◌, take, drop, if◌then◌else◌, codes}
+-- What tokens are to the grammar of types and declarations: keywords, operators and brackets by
+-- their spellings. Public clauses cite these.
+use Rattle.std.specs.Prelude.{ℕ, ◌+◌, ◌-◌, Bool, true, false, List, [], ◌∷◌, take, drop}
+use Rattle.std.specs.Prelude.{if◌then◌else◌, codes}
 use Rattle.std.specs.Str.{bytes_eq}
 use Rattle.go_ast.specs.declared.token.Span.{Span}
 use Rattle.go_ast.specs.declared.token.Token.{Token}
@@ -32,19 +33,24 @@ same_mark = sameb the_type
 -- the mark beside the first of the spellings that is this text
 abbrev pub mark_among : List (List ℕ × Mark) → List ℕ → Mark
 mark_among [] text = m.Other
-mark_among (spelling ∷ spellings) text = if bytes_eq text spelling.0 then spelling.1 else mark_among spellings text
+mark_among (spelling ∷ spellings) text = if bytes_eq text spelling.0 then spelling.1
+    else mark_among spellings text
 
 unfoldable pub keyword_marks : List (List ℕ × Mark)
 keyword_marks =
-    (codes "chan", m.Chan) ∷ (codes "const", m.Const) ∷ (codes "func", m.Func) ∷ (codes "import", m.Import)
-    ∷ (codes "interface", m.Interface) ∷ (codes "map", m.Map) ∷ (codes "package", m.Package) ∷ (codes "struct", m.Struct)
+    (codes "chan", m.Chan) ∷ (codes "const", m.Const) ∷ (codes "func", m.Func)
+    ∷ (codes "import", m.Import)
+    ∷ (codes "interface", m.Interface) ∷ (codes "map", m.Map) ∷ (codes "package", m.Package)
+    ∷ (codes "struct", m.Struct)
     ∷ (codes "type", m.Type) ∷ (codes "var", m.Var) ∷ []
 
 unfoldable pub operator_marks : List (List ℕ × Mark)
 operator_marks =
-    (codes "*", m.Star) ∷ (codes "<-", m.Arrow) ∷ (codes ".", m.Dot) ∷ (codes ",", m.Comma) ∷ (codes "|", m.Bar)
+    (codes "*", m.Star) ∷ (codes "<-", m.Arrow) ∷ (codes ".", m.Dot) ∷ (codes ",", m.Comma)
+    ∷ (codes "|", m.Bar)
     ∷ (codes "~", m.Tilde) ∷ (codes "...", m.Ellipsis) ∷ (codes "=", m.Equal)
-    ∷ (codes "(", m.OpenParen) ∷ (codes ")", m.CloseParen) ∷ (codes "[", m.OpenBracket) ∷ (codes "]", m.CloseBracket)
+    ∷ (codes "(", m.OpenParen) ∷ (codes ")", m.CloseParen) ∷ (codes "[", m.OpenBracket)
+    ∷ (codes "]", m.CloseBracket)
     ∷ (codes "{", m.OpenBrace) ∷ (codes "}", m.CloseBrace) ∷ []
 
 -- what a token of this kind and text is
@@ -72,8 +78,10 @@ word_of source place token = record {
 -- tokens as words, the first of them at a place in the list
 abbrev pub words_from : List ℕ → ℕ → List Token → List Word
 words_from source place [] = []
-words_from source place (token ∷ tokens) = word_of source place token ∷ words_from source (place + 1) tokens
+words_from source place (token ∷ tokens) =
+    word_of source place token ∷ words_from source (place + 1) tokens
 
 -- the words of a range of a source's tokens
 unfoldable pub words_of : List ℕ → List Token → TokenRange → List Word
-words_of source tokens range = words_from source range.first (take (range.after - range.first) (drop range.first tokens))
+words_of source tokens range =
+    words_from source range.first (take (range.after - range.first) (drop range.first tokens))

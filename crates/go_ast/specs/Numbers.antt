@@ -1,7 +1,8 @@
 -- Numeric literals (The Go Programming Language Specification, "Integer literals", "Floating-point
--- literals" and "Imaginary literals"). Each form is a tree, a printer from the tree to its bytes, and a
--- test that says which trees are valid. Public clauses cite these.
-use Rattle.std.specs.Prelude.{ℕ, Bool, true, false, ◌&&◌, ◌||◌, List, [], ◌∷◌, ◌++◌, if◌then◌else◌, ◌==◌, nat_eq, codes}
+-- literals" and "Imaginary literals"). Each form is a tree, a printer from the tree to its bytes,
+-- and a test that says which trees are valid. Public clauses cite these.
+use Rattle.std.specs.Prelude.{ℕ, Bool, true, false, ◌&&◌, ◌||◌, List, [], ◌∷◌, ◌++◌, if◌then◌else◌}
+use Rattle.std.specs.Prelude.{◌==◌, nat_eq, codes}
 use Rattle.std.specs.List.{list_all, list_any}
 use Rattle.std.specs.Int.{is_in_range}
 use Rattle.std.specs.Char.{is_ascii_digit, is_ascii_hexdigit}
@@ -40,7 +41,8 @@ abbrev pub is_plain : Digit → Bool
 is_plain (digit d) = true
 is_plain (separated d) = false
 
--- digits: one or more, each but the first with "_" before it or not; directly after a prefix the first may have one too
+-- digits: one or more, each but the first with "_" before it or not; directly after a prefix the
+-- first may have one too
 abbrev pub are_digits : (ℕ → Bool) → Bool → List Digit → Bool
 are_digits base prefixed [] = false
 are_digits base prefixed (d ∷ ds) = (prefixed || is_plain d) && list_all (is_digit_of base) (d ∷ ds)
@@ -67,7 +69,8 @@ is_integer (decimal d ds) = is_in_range 49 57 d && list_all (is_digit_of is_asci
 is_integer (octal ds) = are_digits is_octal_digit true ds
 is_integer (based letter ds) = is_prefix_letter letter && are_digits (is_digit_after letter) true ds
 
--- the digits of a floating-point literal: whole, or before and after a point, where either may be absent
+-- the digits of a floating-point literal: whole, or before and after a point, where either may be
+-- absent
 pub data Mantissa : Type 0 where
   whole : List Digit → Mantissa
   pointed : List Digit → List Digit → Mantissa
@@ -83,7 +86,8 @@ is_absent (d ∷ ds) = false
 abbrev pub is_mantissa : (ℕ → Bool) → Bool → Mantissa → Bool
 is_mantissa base prefixed (whole ds) = are_digits base prefixed ds
 is_mantissa base prefixed (pointed [] fraction) = are_digits base false fraction
-is_mantissa base prefixed (pointed (d ∷ ds) fraction) = are_digits base prefixed (d ∷ ds) && (is_absent fraction || are_digits base false fraction)
+is_mantissa base prefixed (pointed (d ∷ ds) fraction) =
+    are_digits base prefixed (d ∷ ds) && (is_absent fraction || are_digits base false fraction)
 
 -- a letter, an optional sign and decimal digits
 pub data Sign : Type 0 where
@@ -105,7 +109,8 @@ abbrev pub is_exponent_mark : Bool → ℕ → Bool
 is_exponent_mark hexadecimal b = if hexadecimal then b == 112 || b == 80 else b == 101 || b == 69
 
 abbrev pub is_exponent : Bool → Exponent → Bool
-is_exponent hexadecimal (exponent letter sign ds) = is_exponent_mark hexadecimal letter && are_digits is_ascii_digit false ds
+is_exponent hexadecimal (exponent letter sign ds) =
+    is_exponent_mark hexadecimal letter && are_digits is_ascii_digit false ds
 
 -- float_lit = decimal_float_lit | hex_float_lit
 pub data Float : Type 0 where
@@ -119,13 +124,16 @@ pub data Float : Type 0 where
 abbrev pub print_float : Float → List ℕ
 print_float (pointed_float ds fraction) = print_mantissa (pointed ds fraction)
 print_float (scaled_float mantissa power) = print_mantissa mantissa ++ print_exponent power
-print_float (hexadecimal_float letter mantissa power) = digit_zero ∷ letter ∷ print_mantissa mantissa ++ print_exponent power
+print_float (hexadecimal_float letter mantissa power) =
+    digit_zero ∷ letter ∷ print_mantissa mantissa ++ print_exponent power
 
 abbrev pub is_float : Float → Bool
 is_float (pointed_float ds fraction) = is_mantissa is_ascii_digit false (pointed ds fraction)
-is_float (scaled_float mantissa power) = is_mantissa is_ascii_digit false mantissa && is_exponent false power
+is_float (scaled_float mantissa power) =
+    is_mantissa is_ascii_digit false mantissa && is_exponent false power
 is_float (hexadecimal_float letter mantissa power) =
-    (letter == 120 || letter == 88) && is_mantissa is_ascii_hexdigit true mantissa && is_exponent true power
+    (letter == 120 || letter == 88) && is_mantissa is_ascii_hexdigit true mantissa
+    && is_exponent true power
 
 -- imaginary_lit = (decimal_digits | int_lit | float_lit) "i"
 pub data Imaginary : Type 0 where

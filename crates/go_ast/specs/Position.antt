@@ -1,4 +1,5 @@
--- Where a byte offset stands in a source, as an editor counts: lines from 1, and columns in bytes from 1.
+-- Where a byte offset stands in a source, as an editor counts: lines from 1, and columns in bytes
+-- from 1.
 use Rattle.std.specs.Prelude.{ℕ, ◌+◌, List, [], ◌∷◌, take, if◌then◌else◌, ◌==◌, count_by}
 use Rattle.go_ast.specs.Characters.{newline}
 
@@ -19,7 +20,8 @@ column_of bytes offset = column_after 1 (take offset bytes)
 abbrev pub offsets_after_newlines : ℕ → List ℕ → List ℕ
 offsets_after_newlines offset [] = []
 offsets_after_newlines offset (b ∷ bytes) =
-    if b == newline then (offset + 1) ∷ offsets_after_newlines (offset + 1) bytes else offsets_after_newlines (offset + 1) bytes
+    if b == newline then (offset + 1) ∷ offsets_after_newlines (offset + 1) bytes
+    else offsets_after_newlines (offset + 1) bytes
 
 -- the offsets where the lines of a source begin
 abbrev pub line_starts : List ℕ → List ℕ

@@ -1,6 +1,8 @@
--- What stands between the quotes of runes and texts (The Go Programming Language Specification, "Rune
--- literals" and "String literals"), and where the closing quote is missing. Public clauses cite these.
-use Rattle.std.specs.Prelude.{◌≡◌, ℕ, ◌+◌, ◌*◌, ◌⊎◌, Bool, true, false, ◌&&◌, ◌||◌, not, List, [], ◌∷◌, ◌++◌, length, if◌then◌else◌, ◌==◌, nat_eq, nat_lt, IsTrue, codes}
+-- What stands between the quotes of runes and texts (The Go Programming Language Specification,
+-- "Rune literals" and "String literals"), and where the closing quote is missing. Public clauses
+-- cite these.
+use Rattle.std.specs.Prelude.{◌≡◌, ℕ, ◌+◌, ◌*◌, ◌⊎◌, Bool, true, false, ◌&&◌, ◌||◌, not, List, []}
+use Rattle.std.specs.Prelude.{◌∷◌, ◌++◌, length, if◌then◌else◌, ◌==◌, nat_eq, nat_lt, IsTrue, codes}
 use Rattle.std.specs.List.{list_all, list_any}
 use Rattle.std.specs.Char.{encode_utf8, digit_value, is_ascii_hexdigit}
 use Rattle.std.specs.Str.{all_scalars}
@@ -44,7 +46,8 @@ value_of base digits = value_after base 0 digits
 
 -- three octal digits up to 377
 abbrev pub is_octal_escape : List ℕ → Bool
-is_octal_escape digits = length digits == 3 && list_all is_octal_digit digits && nat_lt (value_of 8 digits) 256
+is_octal_escape digits =
+    length digits == 3 && list_all is_octal_digit digits && nat_lt (value_of 8 digits) 256
 
 abbrev pub is_scalar : ℕ → Bool
 is_scalar c = all_scalars (c ∷ [])
@@ -65,7 +68,8 @@ is_element quote (escape mark) = is_escape_mark quote mark
 is_element quote (octal_escape digits) = is_octal_escape digits
 is_element quote (hexadecimal_escape letter digits) = is_hexadecimal_escape letter digits
 
--- on the way to the closing quote: a byte that stands for itself, or "\" and any byte but the newline
+-- on the way to the closing quote: a byte that stands for itself, or "\" and any byte but the
+-- newline
 pub data Piece : Type 0 where
   plain pair : ℕ → Piece
 

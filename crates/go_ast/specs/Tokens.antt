@@ -31,7 +31,8 @@ pub record IsSpelledAs (bytes : List ℕ) (token : Token) (spelling : Spelling) 
 -- a token has a spelling, or is an automatic semicolon, whose span is empty
 abbrev pub HasSpelling : List ℕ → Token → Type 0
 HasSpelling bytes token =
-    ((token.kind ≡ AutoSemi) × (token.span.start ≡ token.span.end)) ⊎ ((spelling : Spelling) × IsSpelledAs bytes token spelling)
+    ((token.kind ≡ AutoSemi) × (token.span.start ≡ token.span.end))
+    ⊎ ((spelling : Spelling) × IsSpelledAs bytes token spelling)
 
 abbrev pub AreSpelled : List ℕ → List Token → Type 0
 AreSpelled bytes tokens = All (HasSpelling bytes) tokens

@@ -1,16 +1,15 @@
--- Type parameters, and which brackets after the name of a type declaration hold them rather than the
--- length of an array (The Go Programming Language Specification, "Type parameter declarations").
--- Public clauses cite these.
+-- Type parameters, and which brackets after the name of a type declaration hold them rather than
+-- the length of an array (The Go Programming Language Specification, "Type parameter
+-- declarations"). Public clauses cite these.
 use Rattle.std.specs.Prelude.{◌≡◌, Bool, true, false, ◌&&◌, ◌||◌, not, List, [], ◌∷◌}
 use Rattle.std.specs.List.{list_any}
 use Rattle.go_ast.specs.declared.declaration.TypeParam.{TypeParam}
 use Rattle.go_ast.specs.declared.tree.Term.{Term}
 use Rattle.go_ast.specs.declared.token.Span.{Span}
 use Rattle.go_ast.specs.declared.word.Word.{Word}
-use Rattle.go_ast.specs.declared.word.Mark.{Mark}
 use Rattle.go_ast.specs.declared.word.Mark.TheVariants as m
 use Rattle.go_ast.specs.Marks.{same_mark}
-use Rattle.go_ast.specs.Cutting.{Encloses, pieces}
+use Rattle.go_ast.specs.Cutting.{pieces}
 use Rattle.go_ast.specs.Types.{AreTerms, Spells}
 
 abbrev pub type_param : Span → List Term → TypeParam
@@ -18,11 +17,15 @@ type_param name bound = record { name = name; bound = bound }
 
 -- entries of names, where a name alone shares the bound of the next
 pub data Entries : List (List Word) → List TypeParam → Type 0 where
-  final : (name : Word) {ws : List Word} {xs : List Term} → name.mark ≡ m.Ident → AreTerms (Spells 200) ws xs
+  final : (name : Word) {ws : List Word} {xs : List Term} → name.mark ≡ m.Ident
+      → AreTerms (Spells 200) ws xs
       → Entries ((name ∷ ws) ∷ []) (type_param name.span xs ∷ [])
-  bounded : (name : Word) {ws : List Word} {xs : List Term} {es : List (List Word)} {ps : List TypeParam} → name.mark ≡ m.Ident
-      → AreTerms (Spells 200) ws xs → Entries es ps → Entries ((name ∷ ws) ∷ es) (type_param name.span xs ∷ ps)
-  shared : (name : Word) {es : List (List Word)} {p : TypeParam} {ps : List TypeParam} → name.mark ≡ m.Ident → Entries es (p ∷ ps)
+  bounded : (name : Word) {ws : List Word} {xs : List Term} {es : List (List Word)}
+      {ps : List TypeParam} → name.mark ≡ m.Ident
+      → AreTerms (Spells 200) ws xs → Entries es ps
+      → Entries ((name ∷ ws) ∷ es) (type_param name.span xs ∷ ps)
+  shared : (name : Word) {es : List (List Word)} {p : TypeParam} {ps : List TypeParam}
+      → name.mark ≡ m.Ident → Entries es (p ∷ ps)
       → Entries ((name ∷ []) ∷ es) (type_param name.span p.bound ∷ p ∷ ps)
 
 -- a token that no expression for a length in this place has
@@ -47,7 +50,8 @@ second_is_star_or_paren _ = false
 -- the words could be a product or a call, as the length of an array is, and nothing shows that they
 -- are none
 unfoldable pub is_array_like : List Word → Bool
-is_array_like ws = is_one_piece (pieces m.Comma ws) && not (ends_with_comma ws) && second_is_star_or_paren ws && not (list_any shows_bound ws)
+is_array_like ws = is_one_piece (pieces m.Comma ws) && not (ends_with_comma ws)
+    && second_is_star_or_paren ws && not (list_any shows_bound ws)
 
 -- the words between the brackets after the name of a type declaration are type parameters
 pub record AreTypeParams (ws : List Word) (params : List TypeParam) : Type 0 where

@@ -4,8 +4,8 @@ use plain_data::Txt;
 use std::error::Error;
 use std::fmt;
 
-/// Why a source has no reading, or a file no place among the documented ones. Offsets count bytes from
-/// 0, lines and chunks from 1.
+/// Why a source has no reading, or a file no place among the documented ones. Offsets count bytes
+/// from 0, lines and chunks from 1.
 #[derive(Debug, Drop)]
 pub enum Fault {
     /// The source isn't UTF-8. It carries the length of its longest prefix that is.
@@ -24,7 +24,7 @@ pub enum Fault {
     BadDeclaration(u32, u32),
     /// The file names this package, beside another in its folder.
     OtherPackage(Txt),
-    /// The file has more than 4,194,304 bytes.
+    /// The file has more than [`MAX_SOURCE_BYTES`](crate::MAX_SOURCE_BYTES) bytes.
     FileTooLarge,
     /// The file could not be read.
     Unread,

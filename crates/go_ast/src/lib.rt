@@ -1,7 +1,7 @@
 //! Plain data of Go sources, and the definitions that say what their bytes mean.
 //!
-//! `specs/` holds the lexical elements of the Go specification. The plain types of `plain_data` are passed
-//! on from here.
+//! `specs/` holds the lexical elements of the Go specification. The plain types of `plain_data` are
+//! passed on from here.
 #![tactic(auto)]
 
 mod config;
@@ -22,7 +22,7 @@ pub use declaration::{
 pub use fault::{Fault, Refused};
 pub use file_copy::{copy_decl, copy_file};
 pub use plain_data::{Bytes, Failed, IoFail, Mem, NoMemory, Seq, Txt};
-pub use token::{Comment, Scanned, Span, Token, TokenKind, TokenRange};
+pub use token::{Comment, MAX_SOURCE_BYTES, Scanned, Span, Token, TokenKind, TokenRange};
 pub use tree::{ChanDir, Element, Field, Param, Signature, Term, TypeExpr};
 pub use tree_copy::{copy_signature, copy_spans, copy_terms, copy_type};
 pub use word::{Mark, Word};

@@ -1,4 +1,9 @@
-use crate::{Fault, Txt};
+use crate::{
+    ChanDir, Decl, Element, Fault, Field, File, FuncDecl, Group, Param, Receiver, Seq, Signature,
+    Span, Term, TokenRange, Txt, TypeExpr, TypeParam, TypeSpec, copy_file, copy_type,
+};
+use sqlite_items::Boxed;
+use std::alloc::{AllocError, Global};
 use std::test::Fail;
 
 #[test]
@@ -23,5 +28,132 @@ fn faults_are_told_with_their_numbers(rt: HostRuntime) -> Result<(), Fail> {
         let told = format!(in rt.alloc(); "{fault}")?;
         assert_eq!(rt; told.as_str(), text);
     }
+    Ok(())
+}
+
+fn span(start: u32, end: u32) -> Span {
+    Span { start, end }
+}
+
+fn range(first: u32, after: u32) -> TokenRange {
+    TokenRange { first, after }
+}
+
+/// The list of one thing.
+fn one<T: Drop>(alloc: Global, only: T) -> Result<Seq<T>, AllocError> {
+    Ok(Seq::from_vec(vec![in alloc; only]?))
+}
+
+/// A name without arguments.
+fn named(alloc: Global, at: u32) -> TypeExpr {
+    TypeExpr::Name {
+        qualifier: Some(span(at, at + 1)),
+        name: span(at + 2, at + 3),
+        args: Seq::new(alloc),
+    }
+}
+
+/// A signature whose last parameter has three dots, and one result without a name.
+fn variadic(alloc: Global) -> Result<Signature, AllocError> {
+    let param = Param {
+        name: Some(span(1, 2)),
+        typ: TypeExpr::Slice(Boxed::new(alloc, named(alloc, 6))?),
+        variadic: true,
+    };
+    let result = Param {
+        name: None,
+        typ: TypeExpr::Func(Signature {
+            params: Seq::new(alloc),
+            results: Seq::new(alloc),
+        }),
+        variadic: false,
+    };
+    Ok(Signature {
+        params: one(alloc, param)?,
+        results: one(alloc, result)?,
+    })
+}
+
+/// A struct with one field, whose type is a map of channels and interfaces.
+fn structure(alloc: Global) -> Result<TypeExpr, AllocError> {
+    let method = Element::Method {
+        tokens: range(8, 11),
+        name: span(20, 22),
+        sig: variadic(alloc)?,
+    };
+    let channel = TypeExpr::Chan {
+        dir: ChanDir::Receive,
+        elem: Boxed::new(alloc, named(alloc, 12))?,
+    };
+    let map = TypeExpr::Map {
+        key: Boxed::new(alloc, channel)?,
+        value: Boxed::new(alloc, TypeExpr::Interface(one(alloc, method)?))?,
+    };
+    let field = Field {
+        tokens: range(2, 12),
+        names: one(alloc, span(4, 5))?,
+        typ: TypeExpr::Pointer(Boxed::new(alloc, map)?),
+        tag: Some(span(24, 28)),
+    };
+    Ok(TypeExpr::Struct(one(alloc, field)?))
+}
+
+/// A generic alias of an array.
+fn alias(alloc: Global) -> Result<Decl, AllocError> {
+    let term = Term {
+        tilde: true,
+        typ: named(alloc, 3),
+    };
+    let param = TypeParam {
+        name: span(2, 3),
+        bound: one(alloc, term)?,
+    };
+    let spec = TypeSpec {
+        tokens: range(1, 20),
+        name: span(1, 2),
+        params: one(alloc, param)?,
+        alias: true,
+        typ: TypeExpr::Array {
+            length: range(6, 8),
+            elem: Boxed::new(alloc, structure(alloc)?)?,
+        },
+    };
+    Ok(Decl::Types(Group {
+        tokens: range(0, 21),
+        grouped: true,
+        specs: one(alloc, spec)?,
+    }))
+}
+
+#[test]
+fn a_copied_file_is_the_file(rt: HostRuntime) -> Result<(), Fail> {
+    let alloc = rt.alloc();
+    let receiver = Receiver {
+        name: None,
+        pointer: true,
+        base: span(3, 4),
+        params: one(alloc, span(5, 6))?,
+    };
+    let method = FuncDecl {
+        tokens: range(21, 40),
+        name: span(7, 9),
+        receiver: Some(receiver),
+        params: Seq::new(alloc),
+        sig: variadic(alloc)?,
+        body: Some(range(38, 40)),
+    };
+    let file = File {
+        package: span(0, 1),
+        decls: Seq::from_vec(vec![in alloc; alias(alloc)?, Decl::Func(method)]?),
+    };
+    let copied = copy_file(alloc, &file)?;
+    let wanted = format!(in alloc; "{file:?}")?;
+    let told = format!(in alloc; "{copied:?}")?;
+    assert_eq!(rt; told.as_str(), wanted.as_str());
+    let typ = structure(alloc)?;
+    let other = copy_type(alloc, &typ)?;
+    let wanted = format!(in alloc; "{typ:?}")?;
+    let told = format!(in alloc; "{other:?}")?;
+    assert_eq!(rt; told.as_str(), wanted.as_str());
     Ok(())
 }

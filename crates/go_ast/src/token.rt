@@ -2,6 +2,9 @@
 
 use plain_data::Seq;
 
+/// The most bytes that a source may have.
+pub const MAX_SOURCE_BYTES: usize = 4_194_304;
+
 /// The bytes from `start` to before `end`, both byte offsets into one source.
 #[derive(Clone, Copy, Debug, PartialEq, Eq)]
 pub struct Span {

@@ -1,5 +1,6 @@
--- Identifiers and keywords (The Go Programming Language Specification, "Identifiers", "Keywords" and
--- "Exported identifiers"), over the characters of a text and its bytes. Public clauses cite these.
+-- Identifiers and keywords (The Go Programming Language Specification, "Identifiers", "Keywords"
+-- and "Exported identifiers"), over the characters of a text and its bytes. Public clauses cite
+-- these.
 use Rattle.std.specs.Prelude.{ℕ, Bool, false, ◌&&◌, ◌||◌, not, List, [], ◌∷◌, codes}
 use Rattle.std.specs.List.{list_all, list_any}
 use Rattle.std.specs.Str.{bytes_eq, chars}
@@ -20,9 +21,12 @@ is_among texts text = list_any (bytes_eq text) texts
 -- the words that are no identifiers
 unfoldable pub keywords : List (List ℕ)
 keywords =
-    codes "break" ∷ codes "case" ∷ codes "chan" ∷ codes "const" ∷ codes "continue" ∷ codes "default" ∷ codes "defer"
-    ∷ codes "else" ∷ codes "fallthrough" ∷ codes "for" ∷ codes "func" ∷ codes "go" ∷ codes "goto" ∷ codes "if" ∷ codes "import"
-    ∷ codes "interface" ∷ codes "map" ∷ codes "package" ∷ codes "range" ∷ codes "return" ∷ codes "select" ∷ codes "struct"
+    codes "break" ∷ codes "case" ∷ codes "chan" ∷ codes "const" ∷ codes "continue" ∷ codes "default"
+    ∷ codes "defer"
+    ∷ codes "else" ∷ codes "fallthrough" ∷ codes "for" ∷ codes "func" ∷ codes "go" ∷ codes "goto"
+    ∷ codes "if" ∷ codes "import"
+    ∷ codes "interface" ∷ codes "map" ∷ codes "package" ∷ codes "range" ∷ codes "return"
+    ∷ codes "select" ∷ codes "struct"
     ∷ codes "switch" ∷ codes "type" ∷ codes "var" ∷ []
 
 -- a text whose characters are an identifier, and that is no keyword

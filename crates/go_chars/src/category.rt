@@ -5,8 +5,8 @@ ghost use Rattle.go_chars.specs.Letters.{is_letter, is_digit, is_upper};
 
 use unicode::properties::{GeneralCategory, GeneralCategoryGroup};
 
-/// Whether an identifier may begin with a character: the underscore, or one of the general categories
-/// Lu, Ll, Lt, Lm and Lo (Go specification, "Letters and digits").
+/// Whether an identifier may begin with a character: the underscore, or one of the general
+/// categories Lu, Ll, Lt, Lm and Lo (Go specification, "Letters and digits").
 #[tactic(auto, using(crate::proofs::Ascii::ascii_letters))]
 #[inline]
 pub fn is_letter(c: char) -> bool

@@ -1,9 +1,10 @@
 //! Names and keywords.
 
-ghost use Rattle.std.specs.Prelude.{◌≡◌, codes};
+ghost use Rattle.std.specs.Prelude.{◌≡◌};
 ghost use Rattle.std.specs.Str.{bytes_eq, chars};
 ghost use Rattle.std.specs.List.{list_all};
-ghost use Rattle.go_chars.specs.Identifiers.{is_letter_or_digit, is_identifier, is_among, keywords, is_name, is_exported};
+ghost use Rattle.go_chars.specs.Identifiers.{is_letter_or_digit, is_identifier, is_among, keywords};
+ghost use Rattle.go_chars.specs.Identifiers.{is_name, is_exported};
 
 use crate::category::{is_digit, is_letter, is_upper};
 
