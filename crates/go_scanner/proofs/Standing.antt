@@ -1,5 +1,5 @@
--- The plain program and the definition of items give the same answers: what the program finds at the
--- front of some bytes stands there, and what stands there the program finds.
+-- The plain program and the definition of items give the same answers: what the program finds at
+-- the front of some bytes stands there, and what stands there the program finds.
 pub mod Boundaries
 pub mod Characters
 pub mod Comments

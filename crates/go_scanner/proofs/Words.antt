@@ -1,24 +1,33 @@
 -- The name at the front of a text, byte by byte.
-use Rattle.std.proofs.Common.{◌≡◌, ℕ, zero, suc, ◌+◌, ◌≤◌, ◌<◌, true, false, List, [], ◌∷◌, ◌++◌, length, take, drop, get_or, IsUtf8, encode_utf8, encode_utf8_all, sym, ap, ◌∙◌, subst, refl, arith, one-add, length-append, length-drop, cond}
-use Rattle.std.specs.List.{prefix_len, take_while}
+use Rattle.std.proofs.Common.{◌≡◌, ℕ, ◌+◌, ◌≤◌, ◌<◌, true, false, List, [], ◌∷◌, ◌++◌, length}
+use Rattle.std.proofs.Common.{drop, get_or, IsUtf8, encode_utf8, encode_utf8_all, sym, ap, ◌∙◌}
+use Rattle.std.proofs.Common.{subst, refl, arith, one-add, length-append, length-drop}
+use Rattle.std.specs.List.{take_while}
 use Rattle.std.specs.Char.{len_utf8}
 use Rattle.std.specs.Str.{chars}
-use Rattle.std.proofs.lemmas.List.{drop_more, drop-drop, drop_all}
-use Rattle.std.proofs.lemmas.Str.{encode_ascii, chars_past_char, IsUtf8-past_char, drop_past_char, length-encode}
+use Rattle.std.proofs.lemmas.List.{drop_more, drop_all}
+use Rattle.std.proofs.lemmas.Str.{encode_ascii, chars_past_char, IsUtf8-past_char, drop_past_char}
+use Rattle.std.proofs.lemmas.Str.{length-encode}
 use Rattle.go_chars.specs.Identifiers.{is_letter_or_digit}
 use Rattle.go_scanner.specs.Shapes.{word_at}
 use Rattle.go_scanner.proofs.Standing.Characters.{chars-ascii, after_ascii_utf8}
 
 -- the name by the characters
-more_of : (bytes : List ℕ) (c : ℕ) (cs : List ℕ) → chars bytes ≡ c ∷ cs → is_letter_or_digit c ≡ true → word_at bytes ≡ encode_utf8 c ++ encode_utf8_all (take_while is_letter_or_digit cs)
+more_of : (bytes : List ℕ) (c : ℕ) (cs : List ℕ) → chars bytes ≡ c ∷ cs
+    → is_letter_or_digit c ≡ true
+    → word_at bytes ≡ encode_utf8 c ++ encode_utf8_all (take_while is_letter_or_digit cs)
 unfolding word_at
-more_of bytes c cs e passes = ap (λ l. encode_utf8_all (take_while is_letter_or_digit l)) e ∙ rw (passes, one-add) refl
+more_of bytes c cs e passes = ap (λ l. encode_utf8_all (take_while is_letter_or_digit l)) e
+    ∙ rw (passes, one-add) refl
 
-none_of : (bytes : List ℕ) (c : ℕ) (cs : List ℕ) → chars bytes ≡ c ∷ cs → is_letter_or_digit c ≡ false → word_at bytes ≡ []
+none_of : (bytes : List ℕ) (c : ℕ) (cs : List ℕ) → chars bytes ≡ c ∷ cs
+    → is_letter_or_digit c ≡ false → word_at bytes ≡ []
 unfolding word_at
-none_of bytes c cs e fails = ap (λ l. encode_utf8_all (take_while is_letter_or_digit l)) e ∙ rw fails refl
+none_of bytes c cs e fails = ap (λ l. encode_utf8_all (take_while is_letter_or_digit l)) e
+    ∙ rw fails refl
 
-word_at-chars : (bytes : List ℕ) → encode_utf8_all (take_while is_letter_or_digit (chars bytes)) ≡ word_at bytes
+word_at-chars : (bytes : List ℕ) → encode_utf8_all (take_while is_letter_or_digit (chars bytes))
+    ≡ word_at bytes
 unfolding word_at
 word_at-chars bytes = refl
 
@@ -48,7 +57,9 @@ module _ (text : List ℕ) (end : ℕ) (before : WordFrom text end) where
         let b = get_or text end 0 in
         let whole : word_at (drop end text) ≡ b ∷ word_at (drop (end + 1) text) =
         more_of (drop end text) b (chars (drop (end + 1) text)) here_chars passes
-        ∙ ap (λ l. l ++ encode_utf8_all (take_while is_letter_or_digit (chars (drop (end + 1) text)))) (encode_ascii b low)
+        ∙ ap (λ l. l
+        ++ encode_utf8_all (take_while is_letter_or_digit (chars (drop (end + 1) text))))
+        (encode_ascii b low)
         ∙ ap (λ l. b ∷ l) (word_at-chars (drop (end + 1) text)) in
         record {
           within = omega arith;
@@ -58,24 +69,38 @@ module _ (text : List ℕ) (end : ℕ) (before : WordFrom text end) where
 
     pub stops_ascii : is_letter_or_digit (get_or text end 0) ≡ false → end ≡ length (word_at text)
     stops_ascii fails =
-        let none = none_of (drop end text) (get_or text end 0) (chars (drop (end + 1) text)) here_chars fails in
+        let none =
+        none_of (drop end text) (get_or text end 0) (chars (drop (end + 1) text)) here_chars
+        fails in
         omega (arith, before.rest, ap length none)
 
   module _ (c : ℕ) (rest : List ℕ) (split : drop end text ≡ encode_utf8 c ++ rest) where
     wide_chars : chars (drop end text) ≡ c ∷ chars rest
     wide_chars = chars_past_char (drop end text) rest c before.utf8 split
 
-    pub past_wide : (n : ℕ) → n ≡ length (encode_utf8 c) → is_letter_or_digit c ≡ true → WordFrom text (end + n)
+    pub past_wide : (n : ℕ) → n ≡ length (encode_utf8 c) → is_letter_or_digit c ≡ true
+        → WordFrom text (end + n)
     past_wide n size passes =
         let whole : word_at (drop end text) ≡ encode_utf8 c ++ word_at rest =
-        more_of (drop end text) c (chars rest) wide_chars passes ∙ ap (λ l. encode_utf8 c ++ l) (word_at-chars rest) in
+        more_of (drop end text) c (chars rest) wide_chars passes
+        ∙ ap (λ l. encode_utf8 c ++ l) (word_at-chars rest) in
         let place : n ≡ len_utf8 c = size ∙ length-encode c in
-        let past : drop (end + n) text ≡ rest = ap (λ k. drop (end + k) text) place ∙ drop_past_char text rest end c split in
-        let long : length (drop end text) ≡ length (encode_utf8 c) + length rest = ap length split ∙ length-append (encode_utf8 c) rest in
+        let past : drop (end + n) text ≡ rest = ap (λ k. drop (end + k) text) place
+        ∙ drop_past_char text rest end c split in
+        let long : length (drop end text) ≡ length (encode_utf8 c) + length rest =
+        ap length split ∙ length-append (encode_utf8 c) rest in
         record {
           within = omega (arith, long, length-drop end text, size, before.within);
-          utf8 = subst IsUtf8 (sym past) (IsUtf8-past_char (drop end text) rest c before.utf8 split);
-          rest = omega (arith, before.rest, ap length whole, length-append (encode_utf8 c) (word_at rest), size, ap (λ l. length (word_at l)) past);
+          utf8 = subst IsUtf8 (sym past)
+              (IsUtf8-past_char (drop end text) rest c before.utf8 split);
+          rest = omega (
+            arith,
+            before.rest,
+            ap length whole,
+            length-append (encode_utf8 c) (word_at rest),
+            size,
+            ap (λ l. length (word_at l)) past,
+          );
         }
 
     pub stops_wide : is_letter_or_digit c ≡ false → end ≡ length (word_at text)

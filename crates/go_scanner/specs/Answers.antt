@@ -28,4 +28,6 @@ IsFaulty bytes = (fault : Fault) × ScanFault bytes fault
 -- the spans of the tokens stand one after another, from one offset to another
 abbrev pub AreInOrder : ℕ → List Token → ℕ → Type 0
 AreInOrder from [] to = from ≤ to
-AreInOrder from (token ∷ tokens) to = (from ≤ token.span.start) × (token.span.start ≤ token.span.end) × AreInOrder token.span.end tokens to
+AreInOrder from (token ∷ tokens) to =
+    (from ≤ token.span.start) × (token.span.start ≤ token.span.end)
+    × AreInOrder token.span.end tokens to

@@ -1,9 +1,12 @@
 -- What may begin with a byte. Only contracts of private functions and proofs cite these.
 use Rattle.std.specs.Prelude.{ℕ, Bool, ◌||◌, if◌then◌else◌, ◌==◌, nat_lt}
 use Rattle.std.specs.Char.{is_ascii_alphabetic, is_ascii_digit}
-use Rattle.go_ast.specs.Characters.{newline, tab, carriage_return, space, underscore, double_quote, single_quote, back_quote, full_stop}
+use Rattle.go_ast.specs.Characters.{newline, tab, carriage_return, space, underscore, double_quote}
+use Rattle.go_ast.specs.Characters.{single_quote, back_quote, full_stop}
 use Rattle.go_scanner.specs.declared.front.Class as class
-use Rattle.go_scanner.specs.declared.front.Class.TheVariants.{LineEnd, Blank, Letter, Digit, DoubleQuote, SingleQuote, BackQuote, Semicolon, Slash, Point, Wide, Other}
+use Rattle.go_scanner.specs.declared.front.Class.TheVariants.{LineEnd, Blank, Letter, Digit}
+use Rattle.go_scanner.specs.declared.front.Class.TheVariants.{DoubleQuote, SingleQuote, BackQuote}
+use Rattle.go_scanner.specs.declared.front.Class.TheVariants.{Semicolon, Slash, Point, Wide, Other}
 
 -- a letter of ASCII, or the underscore
 abbrev pub is_ascii_letter : ℕ → Bool

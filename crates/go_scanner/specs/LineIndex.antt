@@ -1,5 +1,5 @@
 -- A position in a source by the offsets where its lines begin. Public clauses cite these.
-use Rattle.std.specs.Prelude.{◌≡◌, ℕ, ◌+◌, ◌-◌, ◌<◌, ◌≤◌, List, length, slice_index}
+use Rattle.std.specs.Prelude.{◌≡◌, ℕ, ◌+◌, ◌<◌, ◌≤◌, List, length, slice_index}
 
 -- offsets where lines begin: the first line at 0, each one after those before it
 pub record AreLineStarts (starts : List ℕ) : Type 0 where

@@ -21,7 +21,12 @@ operator_length first second third =
     else (if takes_equals first then (if second == 61 then 2 else 1)
     else (if takes_itself first then (if second == first || second == 61 then 2 else 1)
     else (if first == 46 then (if second == 46 && third == 46 then 3 else 1)
-    else (if first == 60 then (if second == 60 then (if third == 61 then 3 else 2) else (if second == 45 || second == 61 then 2 else 1))
-    else (if first == 62 then (if second == 62 then (if third == 61 then 3 else 2) else (if second == 61 then 2 else 1))
-    else (if first == 38 then (if second == 94 then (if third == 61 then 3 else 2) else (if second == 38 || second == 61 then 2 else 1))
+    else (if first == 60
+    then (if second == 60 then (if third == 61 then 3 else 2)
+    else (if second == 45 || second == 61 then 2 else 1))
+    else (if first == 62
+    then (if second == 62 then (if third == 61 then 3 else 2) else (if second == 61 then 2 else 1))
+    else (if first == 38
+    then (if second == 94 then (if third == 61 then 3 else 2)
+    else (if second == 38 || second == 61 then 2 else 1))
     else 0))))))

@@ -1,6 +1,7 @@
--- Which kind of number some bytes are, found by splitting them at their marks. Only contracts of private
--- functions and proofs cite these.
-use Rattle.std.specs.Prelude.{ℕ, ◌+◌, Bool, true, false, ◌&&◌, ◌||◌, not, List, [], ◌∷◌, length, take, drop, if◌then◌else◌, ◌==◌, nat_lt, Option, Some, None}
+-- Which kind of number some bytes are, found by splitting them at their marks. Only contracts of
+-- private functions and proofs cite these.
+use Rattle.std.specs.Prelude.{ℕ, ◌+◌, Bool, true, false, ◌&&◌, ◌||◌, not, List, [], ◌∷◌, length}
+use Rattle.std.specs.Prelude.{take, drop, if◌then◌else◌, ◌==◌, nat_lt, Option, Some, None}
 use Rattle.std.specs.List.{list_any, position_or_len}
 use Rattle.std.specs.Int.{is_in_range}
 use Rattle.std.specs.Char.{is_ascii_digit, is_ascii_hexdigit}
@@ -14,7 +15,8 @@ use Rattle.go_ast.specs.Lexical.{is_hexadecimal}
 abbrev pub are_separated : (ℕ → Bool) → Bool → List ℕ → Bool
 are_separated base after_mark [] = not after_mark
 are_separated base after_mark (b ∷ bytes) =
-    if b == underscore then not after_mark && are_separated base true bytes else base b && are_separated base false bytes
+    if b == underscore then not after_mark && are_separated base true bytes
+    else base b && are_separated base false bytes
 
 abbrev pub spells_digits : (ℕ → Bool) → Bool → List ℕ → Bool
 spells_digits base prefixed [] = false
@@ -23,7 +25,8 @@ spells_digits base prefixed (b ∷ bytes) = are_separated base (not prefixed) (b
 -- what may follow a zero in an integer
 abbrev pub spells_after_zero : List ℕ → Bool
 spells_after_zero [] = true
-spells_after_zero (b ∷ bytes) = if is_prefix_letter b then spells_digits (is_digit_after b) true bytes
+spells_after_zero (b ∷ bytes) =
+    if is_prefix_letter b then spells_digits (is_digit_after b) true bytes
     else spells_digits is_octal_digit true (b ∷ bytes)
 
 abbrev pub spells_integer : List ℕ → Bool
@@ -44,7 +47,8 @@ spells_mantissa base prefixed bytes =
     let fraction = drop (n + 1) bytes in
     if n == length bytes then spells_digits base prefixed bytes
     else (if n == 0 then spells_digits base false fraction
-    else spells_digits base prefixed (take n bytes) && (length fraction == 0 || spells_digits base false fraction))
+    else spells_digits base prefixed (take n bytes)
+    && (length fraction == 0 || spells_digits base false fraction))
 
 abbrev pub without_sign : List ℕ → List ℕ
 without_sign [] = []
@@ -72,11 +76,13 @@ spells_hexadecimal_float bytes =
     spells_mantissa is_ascii_hexdigit true (take n bytes) && spells_exponent (drop n bytes)
 
 abbrev pub spells_float : List ℕ → Bool
-spells_float bytes = if is_hexadecimal bytes then spells_hexadecimal_float (drop 2 bytes) else spells_decimal_float bytes
+spells_float bytes = if is_hexadecimal bytes then spells_hexadecimal_float (drop 2 bytes)
+    else spells_decimal_float bytes
 
 -- what may stand before the "i" of an imaginary
 abbrev pub spells_part : List ℕ → Bool
-spells_part bytes = spells_integer bytes || spells_digits is_ascii_digit false bytes || spells_float bytes
+spells_part bytes = spells_integer bytes || spells_digits is_ascii_digit false bytes
+    || spells_float bytes
 
 abbrev pub is_letter_i : ℕ → Bool
 is_letter_i b = b == letter_i
@@ -84,5 +90,8 @@ is_letter_i b = b == letter_i
 unfoldable pub number_kind : List ℕ → Option TokenKind
 number_kind bytes =
     let n = position_or_len is_letter_i bytes in
-    if nat_lt n (length bytes) then (if (n + 1 == length bytes) && spells_part (take n bytes) then Some Imaginary else None)
-    else (if spells_integer bytes then Some Int else (if spells_float bytes then Some Float else None))
+    if nat_lt n (length bytes)
+    then (if (n + 1 == length bytes) && spells_part (take n bytes) then Some Imaginary
+    else None)
+    else (if spells_integer bytes then Some Int
+    else (if spells_float bytes then Some Float else None))

@@ -1,22 +1,29 @@
--- What stands at the front of some bytes, found by one test after another. This is the plain program
--- beside the definition of the items of a source: both give the same answers. Only contracts of private
--- functions and proofs cite these.
-use Rattle.std.specs.Prelude.{ℕ, ◌+◌, ◌-◌, Bool, true, false, ◌&&◌, ◌||◌, not, List, [], ◌∷◌, length, take, drop, if◌then◌else◌, ◌==◌, nat_eq, nat_lt, Option, Some, None, option_map, slice_index, codes}
+-- What stands at the front of some bytes, found by one test after another. This is the plain
+-- program beside the definition of the items of a source: both give the same answers. Only
+-- contracts of private functions and proofs cite these.
+use Rattle.std.specs.Prelude.{ℕ, ◌+◌, ◌-◌, Bool, true, false, ◌&&◌, not, List, [], ◌∷◌, length}
+use Rattle.std.specs.Prelude.{take, drop, if◌then◌else◌, ◌==◌, nat_eq, nat_lt, Option, Some, None}
+use Rattle.std.specs.Prelude.{option_map, slice_index, codes}
 use Rattle.std.specs.List.{prefix_len, starts_with, take_while}
 use Rattle.std.specs.Str.{chars, encode_utf8_all}
 use Rattle.go_chars.specs.Letters.{is_letter}
 use Rattle.go_chars.specs.Identifiers.{is_among, is_letter_or_digit, keywords}
 use Rattle.go_ast.specs.declared.token.TokenKind.{TokenKind}
-use Rattle.go_ast.specs.declared.token.TokenKind.TheVariants.{Ident, Keyword, Rune, Text, Operator, Semi}
+use Rattle.go_ast.specs.declared.token.TokenKind.TheVariants.{Ident, Keyword, Rune, Text, Operator}
+use Rattle.go_ast.specs.declared.token.TokenKind.TheVariants.{Semi}
 use Rattle.go_ast.specs.declared.fault.Fault.{Fault}
 use Rattle.go_ast.specs.declared.fault.Fault.TheVariants.{BadToken, OpenComment, OpenString}
-use Rattle.go_ast.specs.Characters.{newline, carriage_return, single_quote, double_quote, back_quote, byte_order_mark_bytes, is_white_space}
-use Rattle.go_ast.specs.Lexical.{Item, white_space, byte_order_mark, line_comment, general_comment, spelled, print_spelling, operators, number_run, begins_number}
+use Rattle.go_ast.specs.Characters.{newline, carriage_return, single_quote, double_quote}
+use Rattle.go_ast.specs.Characters.{back_quote, byte_order_mark_bytes, is_white_space}
+use Rattle.go_ast.specs.Lexical.{Item, white_space, byte_order_mark, line_comment, general_comment}
+use Rattle.go_ast.specs.Lexical.{spelled, print_spelling, operators, number_run, begins_number}
 use Rattle.go_ast.specs.Reading.{kind_of, takes_semicolon, has_newline}
 use Rattle.go_scanner.specs.NumberBytes.{number_kind}
-use Rattle.go_scanner.specs.TextBytes.{text_length, rune_length, raw_length, comment_end, opens_string}
+use Rattle.go_scanner.specs.TextBytes.{text_length, rune_length, raw_length, comment_end}
+use Rattle.go_scanner.specs.TextBytes.{opens_string}
 use Rattle.go_scanner.specs.declared.shape.Shape.{Shape}
-use Rattle.go_scanner.specs.declared.shape.Shape.TheVariants.{Blank, LineEnd, Comment, General, Token}
+use Rattle.go_scanner.specs.declared.shape.Shape.TheVariants.{Blank, LineEnd, Comment, General}
+use Rattle.go_scanner.specs.declared.shape.Shape.TheVariants.{Token}
 
 -- the shape of an item
 abbrev pub shape_of : Item → Shape
@@ -24,12 +31,14 @@ shape_of (white_space b) = if b == newline then LineEnd else Blank 1
 shape_of byte_order_mark = Blank 3
 shape_of (line_comment content) = Comment (length content + 2)
 shape_of (general_comment content) = General (length content + 4) (has_newline content)
-shape_of (spelled spelling) = Token (kind_of spelling) (takes_semicolon spelling) (length (print_spelling spelling))
+shape_of (spelled spelling) =
+    Token (kind_of spelling) (takes_semicolon spelling) (length (print_spelling spelling))
 
 -- a line comment goes to the newline, but for a carriage return directly before it
 abbrev pub comment_length : List ℕ → ℕ
 comment_length bytes = let line = prefix_len (λ b. not (b == newline)) bytes in
-    if nat_lt line (length bytes) && slice_index bytes (line - 1) == carriage_return then line - 1 else line
+    if nat_lt line (length bytes) && slice_index bytes (line - 1) == carriage_return then line - 1
+    else line
 
 -- a general comment of so many bytes between its marks
 abbrev pub general_of : List ℕ → ℕ → Shape
@@ -43,7 +52,8 @@ abbrev pub number_of : ℕ → TokenKind → Shape
 number_of n kind = Token kind true n
 
 unfoldable pub number_shape : List ℕ → Option Shape
-number_shape bytes = option_map (number_of (length (number_run bytes))) (number_kind (number_run bytes))
+number_shape bytes =
+    option_map (number_of (length (number_run bytes))) (number_kind (number_run bytes))
 
 -- the letters and digits at the front
 unfoldable pub word_at : List ℕ → List ℕ
@@ -59,7 +69,9 @@ begins_word bytes = begins_letter (chars bytes)
 
 unfoldable pub word_shape : List ℕ → Shape
 word_shape word = if is_among keywords word
-    then Token Keyword (is_among (codes "break" ∷ codes "continue" ∷ codes "fallthrough" ∷ codes "return" ∷ []) word) (length word)
+    then Token Keyword
+    (is_among (codes "break" ∷ codes "continue" ∷ codes "fallthrough" ∷ codes "return" ∷ []) word)
+    (length word)
     else Token Ident true (length word)
 
 abbrev pub text_of_length : ℕ → Shape
@@ -71,13 +83,18 @@ text_shape bytes = option_map text_of_length (text_length double_quote 0 bytes)
 
 unfoldable pub rune_shape : List ℕ → Option Shape
 rune_shape bytes = let n = rune_length bytes in
-    if nat_lt 0 n && slice_index bytes n == single_quote then Some (Token Rune true (n + 2)) else None
+    if nat_lt 0 n && slice_index bytes n == single_quote then Some (Token Rune true (n + 2))
+    else None
 
 unfoldable pub raw_shape : List ℕ → Option Shape
-raw_shape bytes = if nat_lt (raw_length bytes) (length bytes) then Some (Token Text true (raw_length bytes + 2)) else None
+raw_shape bytes =
+    if nat_lt (raw_length bytes) (length bytes) then Some (Token Text true (raw_length bytes + 2))
+    else None
 
 abbrev pub mark_shape : List ℕ → Shape
-mark_shape mark = Token Operator (is_among (codes "++" ∷ codes "--" ∷ codes ")" ∷ codes "]" ∷ codes "}" ∷ []) mark) (length mark)
+mark_shape mark =
+    Token Operator
+    (is_among (codes "++" ∷ codes "--" ∷ codes ")" ∷ codes "]" ∷ codes "}" ∷ []) mark) (length mark)
 
 -- the longest operator is tried first
 unfoldable pub operator_shape : List ℕ → Option Shape
@@ -110,7 +127,8 @@ item_shape (b ∷ rest) = let bytes = b ∷ rest in
 
 -- what stands at the front of the bytes, at the start of the source or past it
 unfoldable pub shape_at : Bool → List ℕ → Option Shape
-shape_at at_start bytes = if at_start && starts_with nat_eq bytes byte_order_mark_bytes then Some (Blank 3) else item_shape bytes
+shape_at at_start bytes = if at_start && starts_with nat_eq bytes byte_order_mark_bytes
+    then Some (Blank 3) else item_shape bytes
 
 -- how many bytes a shape has
 abbrev pub length_of : Shape → ℕ

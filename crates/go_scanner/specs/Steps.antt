@@ -1,6 +1,7 @@
--- What an item of a shape adds to what was found before it. Only contracts of private functions and proofs
--- cite these.
-use Rattle.std.specs.Prelude.{ℕ, ◌+◌, Bool, true, false, List, [], ◌∷◌, if◌then◌else◌, nat_eq, Option, Some, None}
+-- What an item of a shape adds to what was found before it. Only contracts of private functions and
+-- proofs cite these.
+use Rattle.std.specs.Prelude.{ℕ, ◌+◌, Bool, true, false, List, [], ◌∷◌, if◌then◌else◌, nat_eq}
+use Rattle.std.specs.Prelude.{Option, Some, None}
 use Rattle.std.specs.List.{starts_with}
 use Rattle.go_ast.specs.declared.token.Token.{Token}
 use Rattle.go_ast.specs.declared.token.TokenKind.TheVariants as kinds
@@ -8,7 +9,8 @@ use Rattle.go_ast.specs.declared.token.Comment as comment
 use Rattle.go_ast.specs.Characters.{byte_order_mark_bytes}
 use Rattle.go_ast.specs.Reading.{span, token_of}
 use Rattle.go_scanner.specs.declared.shape.Shape.{Shape}
-use Rattle.go_scanner.specs.declared.shape.Shape.TheVariants.{Blank, LineEnd, Comment, General, Token as TokenShape}
+use Rattle.go_scanner.specs.declared.shape.Shape.TheVariants.{Blank, LineEnd, Comment, General}
+use Rattle.go_scanner.specs.declared.shape.Shape.TheVariants.{Token as TokenShape}
 
 -- the semicolon that is put where the last token ends, if it takes one
 abbrev pub semicolon_of : Option ℕ → List Token

@@ -1,6 +1,8 @@
--- How many bytes runes, texts and general comments have, and which of them are open. Only contracts of
--- private functions and proofs cite these.
-use Rattle.std.specs.Prelude.{ℕ, zero, suc, ◌+◌, Bool, true, false, ◌&&◌, ◌||◌, not, List, [], ◌∷◌, length, take, drop, if◌then◌else◌, ◌==◌, nat_eq, nat_lt, Option, Some, None, option_map, slice_index, codes}
+-- How many bytes runes, texts and general comments have, and which of them are open. Only contracts
+-- of private functions and proofs cite these.
+use Rattle.std.specs.Prelude.{ℕ, zero, suc, ◌+◌, Bool, true, false, ◌&&◌, ◌||◌, List, [], ◌∷◌}
+use Rattle.std.specs.Prelude.{length, take, if◌then◌else◌, ◌==◌, nat_eq, Option, Some, None}
+use Rattle.std.specs.Prelude.{option_map, codes}
 use Rattle.std.specs.List.{position_or_len, starts_with}
 use Rattle.std.specs.Char.{len_utf8}
 use Rattle.std.specs.Str.{chars}
@@ -9,7 +11,8 @@ use Rattle.go_ast.specs.Texts.{is_unquoted, is_escape_mark, is_octal_escape, is_
 
 -- how many bytes an escape has after its "\", or 0 where the bytes begin none
 abbrev pub coded_length : ℕ → ℕ → List ℕ → ℕ
-coded_length letter digits bytes = if is_hexadecimal_escape letter (take digits bytes) then digits + 1 else 0
+coded_length letter digits bytes = if is_hexadecimal_escape letter (take digits bytes)
+    then digits + 1 else 0
 
 abbrev pub escape_length : ℕ → List ℕ → ℕ
 escape_length quote [] = 0
@@ -19,14 +22,16 @@ escape_length quote (b ∷ bytes) = if is_escape_mark quote b then 1
     else (if b == 85 then coded_length 85 8 bytes
     else (if is_octal_escape (take 3 (b ∷ bytes)) then 3 else 0))))
 
--- how many bytes there are up to the closing quote and with it, where the first ones belong to an escape,
--- or none where a newline, the end or an ill-formed escape comes first
+-- how many bytes there are up to the closing quote and with it, where the first ones belong to an
+-- escape, or none where a newline, the end or an ill-formed escape comes first
 unfoldable pub text_length : ℕ → ℕ → List ℕ → Option ℕ
 text_length quote skip [] = None
 text_length quote (suc skip) (b ∷ bytes) = option_map (λ n. n + 1) (text_length quote skip bytes)
 text_length quote zero (b ∷ bytes) = if b == quote then Some 1
     else (if b == newline then None
-    else (if b == backslash then (if escape_length quote bytes == 0 then None else option_map (λ n. n + 1) (text_length quote (escape_length quote bytes) bytes))
+    else (if b == backslash
+    then (if escape_length quote bytes == 0 then None
+    else option_map (λ n. n + 1) (text_length quote (escape_length quote bytes) bytes))
     else option_map (λ n. n + 1) (text_length quote zero bytes)))
 
 -- how many bytes the first character has, where it stands for itself in a rune
@@ -37,7 +42,9 @@ character_length (c ∷ characters) = if is_unquoted single_quote c then len_utf
 -- how many bytes a rune has between its quotes, or 0 where the bytes begin none
 unfoldable pub rune_length : List ℕ → ℕ
 rune_length [] = 0
-rune_length (b ∷ bytes) = if b == backslash then (if escape_length single_quote bytes == 0 then 0 else escape_length single_quote bytes + 1)
+rune_length (b ∷ bytes) =
+    if b == backslash
+    then (if escape_length single_quote bytes == 0 then 0 else escape_length single_quote bytes + 1)
     else character_length (chars (b ∷ bytes))
 
 -- how many bytes stand before the next back quote, or their number where there is none
@@ -47,7 +54,8 @@ raw_length bytes = position_or_len (λ b. b == back_quote) bytes
 -- how many bytes stand before the first "*/"
 unfoldable pub comment_end : List ℕ → Option ℕ
 comment_end [] = None
-comment_end (b ∷ bytes) = if starts_with nat_eq (b ∷ bytes) (codes "*/") then Some 0 else option_map (λ n. n + 1) (comment_end bytes)
+comment_end (b ∷ bytes) = if starts_with nat_eq (b ∷ bytes) (codes "*/") then Some 0
+    else option_map (λ n. n + 1) (comment_end bytes)
 
 -- the line ends before a closing quote; the first byte stands after a "\" or not
 unfoldable pub is_unclosed : ℕ → Bool → List ℕ → Bool

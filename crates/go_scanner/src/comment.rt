@@ -1,6 +1,6 @@
 //! Comments.
 
-ghost use Rattle.std.specs.Prelude.{◌≡◌, ◌==◌, ◌≤◌, length, not};
+ghost use Rattle.std.specs.Prelude.{◌≡◌, ◌==◌, length, not};
 ghost use Rattle.std.specs.List.{prefix_len};
 ghost use Rattle.go_ast.specs.Characters.{newline};
 ghost use Rattle.go_ast.specs.Reading.{has_newline};

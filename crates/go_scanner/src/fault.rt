@@ -7,8 +7,8 @@ ghost use Rattle.go_scanner.specs.TextBytes.{is_unclosed, opens_string};
 use crate::text::raw_length;
 use go_ast::Fault;
 
-/// Whether the line ends before the closing quote of the literal whose opening quote stands before these
-/// bytes. A `\` takes the next byte with it, unless that is a newline.
+/// Whether the line ends before the closing quote of the literal whose opening quote stands before
+/// these bytes. A `\` takes the next byte with it, unless that is a newline.
 #[tactic(auto, unfolding(crate::specs::TextBytes::is_unclosed))]
 fn is_unclosed(quote: u8, bytes: &[u8]) -> bool
     ensures { result ≡ is_unclosed quote false bytes.now }

@@ -1,6 +1,6 @@
 //! What stands at the front of some bytes.
 
-ghost use Rattle.std.specs.Prelude.{◌≡◌, ◌∷◌, ◌<◌, length, slice_index};
+ghost use Rattle.std.specs.Prelude.{◌≡◌, ◌<◌, length, slice_index};
 ghost use Rattle.go_scanner.specs.Shapes.{item_shape, operator_shape};
 ghost use Rattle.go_scanner.specs.Classes.{class_of};
 
@@ -79,7 +79,8 @@ fn point_shape(bytes: &[u8]) -> Option<Shape>
     }
 }
 
-/// The word at the front, which begins with a character past ASCII, or `None` where that is no letter.
+/// The word at the front, which begins with a character past ASCII, or `None` where that is no
+/// letter.
 fn wide_shape(text: &str) -> Option<Shape>
     requires { class_of (slice_index text.now 0) ≡ Class.Wide }
     ensures { result ≡ item_shape text.now }
@@ -91,8 +92,8 @@ fn wide_shape(text: &str) -> Option<Shape>
     }
 }
 
-/// What stands at the front of a text that isn't empty, past the start of a source, or `None` where no
-/// item does.
+/// What stands at the front of a text that isn't empty, past the start of a source, or `None` where
+/// no item does.
 pub fn item_shape(text: &str) -> Option<Shape>
     requires { 0 < length text.now }
     ensures { result ≡ item_shape text.now }

@@ -12,9 +12,10 @@ ghost use Rattle.go_scanner.specs.Answers.{IsRead, IsFaulty};
 pub fn one_reading_or_fault()
     ensures either { (bytes : List ℕ) → IsRead bytes ⊎ IsFaulty bytes }
     ensures one_reading { (bytes : List ℕ) (tokens all : List Token) (comments every : List Comment)
-        → Reads bytes tokens comments → Reads bytes all every → (tokens ≡ all) × (comments ≡ every) }
+        → Reads bytes tokens comments → Reads bytes all every
+        → (tokens ≡ all) × (comments ≡ every) }
     ensures one_fault { (bytes : List ℕ) (fault other : Fault)
         → ScanFault bytes fault → ScanFault bytes other → fault ≡ other }
-    ensures not_both { (bytes : List ℕ) (tokens : List Token) (comments : List Comment) (fault : Fault)
-        → Reads bytes tokens comments → ScanFault bytes fault → ⊥ }
+    ensures not_both { (bytes : List ℕ) (tokens : List Token) (comments : List Comment)
+        (fault : Fault) → Reads bytes tokens comments → ScanFault bytes fault → ⊥ }
 {}

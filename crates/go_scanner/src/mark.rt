@@ -37,7 +37,8 @@ fn takes_itself(mark: u8) -> bool
     matches!(mark, b'+' | b'-' | b'|')
 }
 
-/// How many bytes the longest operator has that the three bytes begin with, or 0 where there is none.
+/// How many bytes the longest operator has that the three bytes begin with, or 0 where there is
+/// none.
 fn operator_length(first: u8, second: u8, third: u8) -> usize
     ensures { result ≡ operator_length first second third }
 {
@@ -65,7 +66,8 @@ fn operator_length(first: u8, second: u8, third: u8) -> usize
 
 /// Whether an operator takes a semicolon at the end of a line.
 fn ends_statement(mark: &[u8]) -> bool
-    ensures { result ≡ is_among (codes "++" ∷ codes "--" ∷ codes ")" ∷ codes "]" ∷ codes "}" ∷ []) mark.now }
+    ensures { result
+        ≡ is_among (codes "++" ∷ codes "--" ∷ codes ")" ∷ codes "]" ∷ codes "}" ∷ []) mark.now }
 {
     is(mark, "++") || is(mark, "--") || is(mark, ")") || is(mark, "]") || is(mark, "}")
 }

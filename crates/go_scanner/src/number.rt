@@ -1,10 +1,14 @@
 //! Numbers.
 
-ghost use Rattle.std.specs.Prelude.{◌≡◌, ◌<◌, ◌≤◌, Bool, ℕ, length, option_map};
-ghost use Rattle.std.specs.List.{list_any, position_or_len};
+ghost use Rattle.std.specs.Prelude.{◌≡◌, ◌<◌, length};
+ghost use Rattle.std.specs.List.{position_or_len};
 ghost use Rattle.go_ast.specs.Numbers.{is_digit_after, is_prefix_letter};
 ghost use Rattle.go_scanner.specs.Bases.{digits_of};
-ghost use Rattle.go_scanner.specs.NumberBytes.{are_separated, spells_digits, spells_after_zero, spells_integer, is_point, point_place, spells_mantissa, without_sign, spells_exponent, exponent_place, spells_decimal_float, spells_hexadecimal_float, spells_float, spells_part, is_letter_i, number_kind};
+ghost use Rattle.go_scanner.specs.NumberBytes.{are_separated, spells_digits, spells_after_zero};
+ghost use Rattle.go_scanner.specs.NumberBytes.{spells_integer, point_place, spells_mantissa};
+ghost use Rattle.go_scanner.specs.NumberBytes.{without_sign, spells_exponent, exponent_place};
+ghost use Rattle.go_scanner.specs.NumberBytes.{spells_decimal_float, spells_hexadecimal_float};
+ghost use Rattle.go_scanner.specs.NumberBytes.{spells_float, spells_part, is_letter_i, number_kind};
 ghost use Rattle.go_scanner.specs.Shapes.{number_shape};
 
 use crate::run::{is_exponent_mark, is_hexadecimal, number_run};
@@ -66,8 +70,8 @@ fn are_separated(base: Base, mut after_mark: bool, bytes: &[u8]) -> bool
     !after_mark
 }
 
-/// Whether the bytes are one or more digits, of which the first may have a `_` before it only directly
-/// after a prefix.
+/// Whether the bytes are one or more digits, of which the first may have a `_` before it only
+/// directly after a prefix.
 fn spells_digits(base: Base, prefixed: bool, bytes: &[u8]) -> bool
     ensures { result ≡ spells_digits (digits_of base) prefixed bytes.now }
 {

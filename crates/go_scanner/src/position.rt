@@ -22,8 +22,8 @@ fn line_index(starts: &[u32], offset: u32) -> usize
     }
 }
 
-/// The position of a byte offset, by the offsets where the lines begin, as `scan` gives them. It takes a
-/// number of steps in proportion to the logarithm of the number of lines.
+/// The position of a byte offset, by the offsets where the lines begin, as `scan` gives them. It
+/// takes a number of steps in proportion to the logarithm of the number of lines.
 pub fn position_of(starts: &[u32], offset: u32) -> Position
     requires { AreLineStarts starts.now }
     ensures { IsPosition starts.now offset result.line result.column }

@@ -3,7 +3,8 @@
 ghost use Rattle.std.specs.Prelude.{◌≡◌, ◌<◌, length};
 ghost use Rattle.std.specs.List.{starts_with};
 ghost use Rattle.go_ast.specs.Numbers.{is_exponent_mark};
-ghost use Rattle.go_ast.specs.Lexical.{begins_number, is_run_byte, goes_on, run_after, is_hexadecimal, number_run};
+ghost use Rattle.go_ast.specs.Lexical.{begins_number, is_run_byte, goes_on, run_after};
+ghost use Rattle.go_ast.specs.Lexical.{is_hexadecimal, number_run};
 
 /// Whether the run of a number begins at the front: a digit, or a full stop before a digit.
 pub fn begins_number(rest: &[u8]) -> bool

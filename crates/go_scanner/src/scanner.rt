@@ -1,14 +1,17 @@
 //! One pass over a source.
 
-ghost use Rattle.std.specs.Prelude.{◌≡◌, ◌++◌, ◌∷◌, ◌≤◌, All, List, [], length, IfOk, IfErr, OnOk, MatchResult, IsUtf8};
+ghost use Rattle.std.specs.Prelude.{◌≡◌, ◌++◌, ◌∷◌, ◌≤◌, All, List, [], length, IfOk, IfErr, OnOk};
+ghost use Rattle.std.specs.Prelude.{MatchResult};
 ghost use Rattle.go_ast.specs.declared.token.Token.{Token};
 ghost use Rattle.go_ast.specs.declared.token.Comment.{Comment};
 ghost use Rattle.go_ast.specs.declared.fault.Fault.{Fault};
+ghost use Rattle.go_ast.specs.declared.token.TheConstants.{MAX_SOURCE_BYTES};
 ghost use Rattle.go_ast.specs.Position.{line_starts};
 ghost use Rattle.go_ast.specs.Reading.{Reads, ScanFault, token_of};
 ghost use Rattle.go_ast.specs.Tokens.{AreSpelled, IsWithin};
 ghost use Rattle.go_scanner.specs.Answers.{AreInOrder, IsRead, IsRefusedAs, RefusedFor};
-ghost use Rattle.go_scanner.specs.Steps.{comment_of, mark_length, pending_at, pending_of, semicolon_at};
+ghost use Rattle.go_scanner.specs.Steps.{comment_of, mark_length, pending_at, pending_of};
+ghost use Rattle.go_scanner.specs.Steps.{semicolon_at};
 
 use crate::fault::fault_at;
 use crate::front::item_shape;
@@ -32,13 +35,15 @@ fn no_tokens(alloc: Global, length: usize) -> Result<Vec<Token>, Refused>
     Vec::with_capacity(alloc, length / 4).map_err(no_memory)
 }
 
-/// Adds the semicolon that the last token takes, where a line ends, and gives what is pending after that.
+/// Adds the semicolon that the last token takes, where a line ends, and gives what is pending after
+/// that.
 fn end_line(
     tokens: &mut Vec<Token>,
     pending: Option<u32>,
     ends: bool,
 ) -> Result<Option<u32>, Refused>
-    ensures tokens { OnOk result (tokens.new.items ≡ tokens.old.items ++ semicolon_at ends pending) }
+    ensures tokens { OnOk result
+        (tokens.new.items ≡ tokens.old.items ++ semicolon_at ends pending) }
     ensures pending { IfOk result (λ left. left ≡ pending_at ends pending) }
     ensures err { IfErr result (λ refused. refused ≡ Refused.NoMemory) }
 {
@@ -74,7 +79,8 @@ fn push_comment(
     start: u32,
     end: u32,
 ) -> Result<(), Refused>
-    ensures ok { OnOk result (comments.new.items ≡ comments.old.items ++ comment_of general start end ∷ []) }
+    ensures ok { OnOk result
+        (comments.new.items ≡ comments.old.items ++ comment_of general start end ∷ []) }
     ensures err { IfErr result (λ refused. refused ≡ Refused.NoMemory) }
 {
     let span = Span { start, end };
@@ -101,7 +107,7 @@ fn mark_length(source: &[u8]) -> usize
 
 /// Reads a source from its start to its end, or to the first place where no item stands.
 fn read(alloc: Global, text: &str) -> Result<Found, Refused>
-    requires { length text.now ≤ 4194304 }
+    requires { length text.now ≤ MAX_SOURCE_BYTES }
     ensures read { IfOk result (λ found. Reads text.now found.tokens.items found.comments.items) }
     ensures refused { IfErr result (RefusedFor text.now) }
 {
@@ -140,14 +146,15 @@ fn read(alloc: Global, text: &str) -> Result<Found, Refused>
 
 /// The tokens and comments of a Go source, and the offsets where its lines begin.
 ///
-/// The source has at most 4,194,304 bytes. The answer is `Refused::Fault` exactly where the source has
-/// no reading: with `NotUtf8` and the length of the longest prefix that is UTF-8 where it isn't UTF-8;
-/// else with the byte offset to which items lead from the start and at which none stands, as
-/// `OpenComment` where a general comment without an end begins there, as `OpenString` where a rune or a
-/// text without its closing mark does, and else as `BadToken`. It is `Refused::NoMemory` where an
-/// allocation was refused. (Go specification, "Lexical elements".)
+/// The source has at most [`MAX_SOURCE_BYTES`](go_ast::MAX_SOURCE_BYTES) bytes. The answer is
+/// `Refused::Fault` exactly where the source has no reading: with `NotUtf8` and the length of the
+/// longest prefix that is UTF-8 where it isn't UTF-8; else with the byte offset to which items lead
+/// from the start and at which none stands, as `OpenComment` where a general comment without an end
+/// begins there, as `OpenString` where a rune or a text without its closing mark does, and else as
+/// `BadToken`. It is `Refused::NoMemory` where an allocation was refused. (Go specification,
+/// "Lexical elements".)
 pub fn scan(alloc: Global, source: &[u8]) -> Result<Scanned, Refused>
-    requires { length source.now ≤ 4194304 }
+    requires { length source.now ≤ MAX_SOURCE_BYTES }
 
     ensures read { IfOk result (λ scanned. Reads source.now scanned.tokens scanned.comments) }
     ensures lines { IfOk result (λ scanned. scanned.lines ≡ line_starts source.now) }
@@ -157,8 +164,10 @@ pub fn scan(alloc: Global, source: &[u8]) -> Result<Scanned, Refused>
     ensures fault { IfErr result (RefusedFor source.now) }
 
     // A source that has a reading is read so, unless memory runs out.
-    ensures found { (tokens : List Token) (comments : List Comment) → Reads source.now tokens comments
-        → MatchResult result (λ scanned. (scanned.tokens ≡ tokens) × (scanned.comments ≡ comments)) (λ refused. refused ≡ Refused.NoMemory) }
+    ensures found { (tokens : List Token) (comments : List Comment)
+        → Reads source.now tokens comments → MatchResult result
+        (λ scanned. (scanned.tokens ≡ tokens) × (scanned.comments ≡ comments))
+        (λ refused. refused ≡ Refused.NoMemory) }
 
     // A source that has a fault is refused for it, unless memory runs out.
     ensures refused { (fault : Fault) → ScanFault source.now fault

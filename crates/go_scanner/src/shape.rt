@@ -16,7 +16,8 @@ pub enum Shape {
     Comment(usize),
     /// A general comment of so many bytes, and whether it holds a newline.
     General(usize, bool),
-    /// A token of this kind and of so many bytes, and whether it takes a semicolon at the end of a line.
+    /// A token of this kind and of so many bytes, and whether it takes a semicolon at the end of a
+    /// line.
     Token(TokenKind, bool, usize),
 }
 

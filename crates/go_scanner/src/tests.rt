@@ -4,13 +4,10 @@ use crate::scan;
 use go_ast::TokenKind::{
     AutoSemi, Float, Ident, Imaginary, Int, Keyword, Operator, Rune, Semi, Text,
 };
-use go_ast::{Comment, Refused, Span, Token, TokenKind};
+use go_ast::{Comment, MAX_SOURCE_BYTES, Refused, Span, Token, TokenKind};
 use std::alloc::{AllocError, Global};
 use std::process::Abort;
 use std::test::Fail;
-
-/// The most bytes that a source may have.
-const LARGEST: usize = 4_194_304;
 
 fn token(kind: TokenKind, start: u32, end: u32) -> Token {
     let span = Span { start, end };
@@ -35,7 +32,7 @@ fn general(start: u32, end: u32) -> Comment {
 
 /// Scans a source that has a reading, and compares its tokens.
 fn assert_tokens(rt: &(impl Abort + AllocGlobal), source: &[u8], wanted: &[Token]) {
-    assert!(rt; source.len() <= LARGEST);
+    assert!(rt; source.len() <= MAX_SOURCE_BYTES);
     match scan(rt.alloc(), source) {
         Ok(scanned) => assert_eq!(rt; scanned.tokens.as_slice(), wanted, "in {source:?}"),
         Err(refused) => assert!(rt; false, "{refused:?} of {source:?}"),
@@ -49,7 +46,7 @@ fn assert_places(
     comments: &[Comment],
     lines: &[u32],
 ) {
-    assert!(rt; source.len() <= LARGEST);
+    assert!(rt; source.len() <= MAX_SOURCE_BYTES);
     match scan(rt.alloc(), source) {
         Ok(scanned) => {
             assert_eq!(rt; scanned.comments.as_slice(), comments, "in {source:?}");
@@ -59,9 +56,16 @@ fn assert_places(
     }
 }
 
+/// Scans a source that is one literal or word, which takes a semicolon.
+fn assert_literal(rt: &(impl Abort + AllocGlobal), kind: TokenKind, source: &str) {
+    let end = u32::try_from(source.len()).expect(rt, "a short literal");
+    let wanted = [token(kind, 0, end), token(AutoSemi, end, end)];
+    assert_tokens(rt, source.as_bytes(), &wanted);
+}
+
 /// The text of the fault of a source, or the empty text where it has none.
 fn fault_of(alloc: Global, source: &[u8]) -> Result<String, AllocError> {
-    if source.len() > LARGEST {
+    if source.len() > MAX_SOURCE_BYTES {
         return Ok(String::new(alloc));
     }
     match scan(alloc, source) {
@@ -153,7 +157,7 @@ fn semicolons(rt: HostRuntime) {
         ("a\r+", false),
     ] {
         let source = source.as_bytes();
-        assert!(rt; source.len() <= LARGEST);
+        assert!(rt; source.len() <= MAX_SOURCE_BYTES);
         match scan(rt.alloc(), source) {
             Ok(scanned) => {
                 let second = scanned.tokens.get(1).copied();
@@ -166,7 +170,7 @@ fn semicolons(rt: HostRuntime) {
 }
 
 #[test]
-fn literals(rt: HostRuntime) {
+fn numbers(rt: HostRuntime) {
     for (kind, source) in [
         (Int, "0"),
         (Int, "42"),
@@ -195,6 +199,14 @@ fn literals(rt: HostRuntime) {
         (Imaginary, "0b1i"),
         (Imaginary, ".5e3i"),
         (Imaginary, "0x1p2i"),
+    ] {
+        assert_literal(&rt, kind, source);
+    }
+}
+
+#[test]
+fn runes_texts_and_words(rt: HostRuntime) {
+    for (kind, source) in [
         (Rune, "'a'"),
         (Rune, "'\u{E9}'"),
         (Rune, "'\u{1F600}'"),
@@ -221,14 +233,12 @@ fn literals(rt: HostRuntime) {
         (Ident, "\u{FF21}"),
         (Keyword, "fallthrough"),
     ] {
-        let end = u32::try_from(source.len()).expect(&rt, "a short literal");
-        let wanted = [token(kind, 0, end), token(AutoSemi, end, end)];
-        assert_tokens(&rt, source.as_bytes(), &wanted);
+        assert_literal(&rt, kind, source);
     }
 }
 
 #[test]
-fn faults(rt: HostRuntime) -> Result<(), Fail> {
+fn bad_tokens(rt: HostRuntime) -> Result<(), Fail> {
     for (source, fault) in [
         ("a\u{FEFF}", "fault 2: bad token at byte 1"),
         ("\u{FEFF}\u{FEFF}", "fault 2: bad token at byte 3"),
@@ -260,6 +270,16 @@ fn faults(rt: HostRuntime) -> Result<(), Fail> {
         (r#"a "\q""#, "fault 2: bad token at byte 2"),
         (r#""\'""#, "fault 2: bad token at byte 0"),
         (r#""\x4""#, "fault 2: bad token at byte 0"),
+    ] {
+        let found = fault_of(rt.alloc(), source.as_bytes())?;
+        assert_eq!(rt; found.as_str(), fault, "in {source:?}");
+    }
+    Ok(())
+}
+
+#[test]
+fn open_comments_and_strings(rt: HostRuntime) -> Result<(), Fail> {
+    for (source, fault) in [
         ("/*", "fault 3: open comment at byte 0"),
         ("a/*/", "fault 3: open comment at byte 1"),
         ("\"a", "fault 4: open string at byte 0"),
@@ -284,16 +304,20 @@ fn faults(rt: HostRuntime) -> Result<(), Fail> {
 #[test]
 fn largest(rt: HostRuntime) -> Result<(), Fail> {
     for byte in [b'a', b';'] {
-        let source = vec![in rt.alloc(); byte; LARGEST]?;
-        assert!(rt; source.len() <= LARGEST);
+        let source = vec![in rt.alloc(); byte; MAX_SOURCE_BYTES]?;
+        assert!(rt; source.len() <= MAX_SOURCE_BYTES);
         let scanned = scan(rt.alloc(), &source)?;
         let tokens = match byte {
             b'a' => 2,
-            b';' => LARGEST,
+            b';' => MAX_SOURCE_BYTES,
             _ => 0,
         };
         assert_eq!(rt; scanned.tokens.len(), tokens);
-        let lines = if byte == b'\n' { LARGEST + 1 } else { 1 };
+        let lines = if byte == b'\n' {
+            MAX_SOURCE_BYTES + 1
+        } else {
+            1
+        };
         assert_eq!(rt; scanned.lines.len(), lines);
     }
     Ok(())

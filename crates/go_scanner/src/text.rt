@@ -1,14 +1,15 @@
 //! Runes and texts.
 
 ghost use Rattle.std.specs.Prelude.{◌≡◌, ◌<◌, ◌≤◌, ◌+◌, IfSome, length, take};
-ghost use Rattle.std.specs.Char.{digit_value};
+ghost use Rattle.std.specs.Char.{digit_value, is_ascii_hexdigit};
 ghost use Rattle.std.specs.List.{list_all};
-ghost use Rattle.std.specs.Char.{is_ascii_hexdigit};
 ghost use Rattle.std.specs.Str.{chars};
 ghost use Rattle.go_ast.specs.Characters.{double_quote};
 ghost use Rattle.go_ast.specs.Numbers.{is_octal_digit};
-ghost use Rattle.go_ast.specs.Texts.{is_unquoted, is_escape_mark, value_of, is_octal_escape, is_scalar, is_coded, is_hexadecimal_escape};
-ghost use Rattle.go_scanner.specs.TextBytes.{coded_length, escape_length, text_length, character_length, rune_length, raw_length};
+ghost use Rattle.go_ast.specs.Texts.{is_escape_mark, value_of, is_octal_escape, is_scalar};
+ghost use Rattle.go_ast.specs.Texts.{is_coded, is_hexadecimal_escape};
+ghost use Rattle.go_scanner.specs.TextBytes.{coded_length, escape_length, text_length};
+ghost use Rattle.go_scanner.specs.TextBytes.{character_length, rune_length, raw_length};
 ghost use Rattle.go_scanner.specs.Shapes.{text_shape, rune_shape, raw_shape};
 
 use crate::shape::Shape;
@@ -138,8 +139,8 @@ pub fn escape_length(quote: u8, bytes: &[u8]) -> usize
     }
 }
 
-/// How many bytes there are up to the closing quote and with it, or `None` where the text whose opening
-/// quote stands before these bytes doesn't end on the line, or holds an ill-formed escape.
+/// How many bytes there are up to the closing quote and with it, or `None` where the text whose
+/// opening quote stands before these bytes doesn't end on the line, or holds an ill-formed escape.
 fn text_length(bytes: &[u8]) -> Option<usize>
     ensures value { result ≡ text_length double_quote 0 bytes.now }
     ensures within { IfSome result (λ n. n ≤ length bytes.now) }

@@ -2,7 +2,6 @@
 
 ghost use Rattle.std.specs.Prelude.{◌≡◌, [], ◌∷◌, codes, length};
 ghost use Rattle.std.specs.Str.{bytes_eq, chars};
-ghost use Rattle.std.specs.Char.{is_ascii_alphanumeric};
 ghost use Rattle.go_chars.specs.Identifiers.{is_among, is_letter_or_digit};
 ghost use Rattle.go_scanner.specs.Shapes.{begins_word, word_at, word_shape};
 
@@ -62,7 +61,10 @@ pub fn is(word: &[u8], known: &str) -> bool
 
 /// Whether a keyword takes a semicolon at the end of a line.
 fn ends_statement(word: &[u8]) -> bool
-    ensures { result ≡ is_among (codes "break" ∷ codes "continue" ∷ codes "fallthrough" ∷ codes "return" ∷ []) word.now }
+    ensures { result
+        ≡ is_among
+        (codes "break" ∷ codes "continue" ∷ codes "fallthrough" ∷ codes "return" ∷ [])
+        word.now }
 {
     is(word, "break") || is(word, "continue") || is(word, "fallthrough") || is(word, "return")
 }

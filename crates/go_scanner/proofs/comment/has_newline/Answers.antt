@@ -4,4 +4,5 @@ use Rattle.go_scanner.proofs.Places.{any_found}
 use Rattle.go_scanner.proofs.comment.has_newline.Goals as goal
 
 pub returns : goal.returns
-returns c = c.is_some.ensures ∙ any_found (is_byte 10) c.args.bytes.now c.memchr.result c.memchr.ensures
+returns c =
+    c.is_some.ensures ∙ any_found (is_byte 10) c.args.bytes.now c.memchr.result c.memchr.ensures

@@ -4,4 +4,5 @@ use Rattle.go_scanner.proofs.fault.is_unclosed.Given as goal
 
 -- the answer is that of what is left
 abbrev pub invariant-loop-byte : goal.invariant-loop-byte
-invariant-loop-byte l = is_unclosed l.quote l.escaped (drop l.byte-index l.bytes) ≡ is_unclosed l.quote false l.bytes
+invariant-loop-byte l =
+    is_unclosed l.quote l.escaped (drop l.byte-index l.bytes) ≡ is_unclosed l.quote false l.bytes

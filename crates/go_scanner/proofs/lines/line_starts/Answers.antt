@@ -9,4 +9,6 @@ loop-line-preserved c =
 
 pub returns : goal.returns
 returns c =
-    c.from_vec.ensures ∙ no_more c.args.source.now _ c.loop-line.at c.loop-line.invariant.starts c.in_default.ensures
+    c.from_vec.ensures
+    ∙ no_more c.args.source.now _ c.loop-line.at c.loop-line.invariant.starts
+    c.in_default.ensures

@@ -6,4 +6,5 @@ use Rattle.go_scanner.proofs.number.are_separated.Given as goal
 -- the answer is that of what is left
 abbrev pub invariant-loop-byte : goal.invariant-loop-byte
 invariant-loop-byte l =
-    are_separated (digits_of l.base) l.after_mark (drop l.byte-index l.bytes) ≡ are_separated (digits_of l.base) l.fn.after_mark l.bytes
+    are_separated (digits_of l.base) l.after_mark (drop l.byte-index l.bytes) ≡ are_separated
+    (digits_of l.base) l.fn.after_mark l.bytes
