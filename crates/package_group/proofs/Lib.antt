@@ -1,0 +1,6 @@
+mod Lists
+mod Lookups
+mod Members
+mod Slashes
+mod Suffixes
+mod Whole

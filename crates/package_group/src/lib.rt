@@ -1,0 +1,15 @@
+//! The packages that accepted files make up: one for each folder (The Go Programming Language
+//! Specification, "Packages").
+//!
+//! [`group`] gives exactly what `specs/Groups.antt` says.
+#![tactic(auto)]
+
+mod facts;
+mod folders;
+mod grouping;
+mod names;
+#[cfg(test)]
+mod tests;
+
+pub use facts::{FileFact, Grouped, Package};
+pub use grouping::group;
