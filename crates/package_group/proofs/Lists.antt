@@ -1,5 +1,5 @@
 -- Filters, tests and look-ups of lists that are mapped.
-use Rattle.std.proofs.Common.{◌≡◌, ℕ, ◌+◌, ◌<◌, Bool, true, false, cond, List, [], ◌∷◌, ◌++◌, take, drop, zero-add, add-zero, add-one, arith, drop-cons, Option, Some, None, map, get_or, length, All, refl, sym, ap, ◌∙◌, true≢false, ⊎_elim}
+use Rattle.std.proofs.Common.{◌≡◌, ℕ, ◌+◌, ◌<◌, Bool, true, false, cond, List, [], ◌∷◌, ◌++◌, take, drop, zero-add, add-zero, add-one, arith, drop-cons, Some, map, get_or, length, All, refl, sym, ap, ◌∙◌, true≢false, ⊎_elim}
 use Rattle.std.proofs.lemmas.Bool.{cases_Bool}
 use Rattle.std.specs.Prelude.{◌||◌}
 use Rattle.std.specs.List.{Contains, filter, find, list_any, enumerate_from}
@@ -102,7 +102,7 @@ pub kept_more : {X Y : Type 0} (g : X → Y) (p : X → Bool) (xs : List X) (i :
 kept_more g p xs i x out below here so_far passes =
     let here' : p (get_or xs i x) ≡ true = ap p (sym here) ∙ passes in
     let more : filter p (take (i + 1) xs) ≡ filter p (take i xs) ++ x ∷ [] =
-        filter_more p xs i x below ∙ ap (λ b. filter p (take i xs) ++ cond b (get_or xs i x ∷ []) []) here' ∙ ap (λ y. filter p (take i xs) ++ y ∷ []) (sym here) in
+    filter_more p xs i x below ∙ ap (λ b. filter p (take i xs) ++ cond b (get_or xs i x ∷ []) []) here' ∙ ap (λ y. filter p (take i xs) ++ y ∷ []) (sym here) in
     ap (λ l. l ++ g x ∷ []) so_far ∙ sym (map-append g (filter p (take i xs)) (x ∷ [])) ∙ ap (map g) (sym more)
 
 pub left_more : {X Y : Type 0} (g : X → Y) (p : X → Bool) (xs : List X) (i : ℕ) (x : X) (out : List Y) → i < length xs → x ≡ get_or xs i x → out ≡ map g (filter p (take i xs)) → p x ≡ false → out ≡ map g (filter p (take (i + 1) xs))

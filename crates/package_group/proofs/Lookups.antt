@@ -1,5 +1,5 @@
 -- The names of packages by their paths.
-use Rattle.std.proofs.Common.{◌≡◌, ℕ, ◌+◌, ◌<◌, Bool, true, false, cond, List, [], ◌∷◌, ◌++◌, Option, Some, None, map, get_or, take, length, refl, sym, ap, subst, ◌∙◌}
+use Rattle.std.proofs.Common.{◌≡◌, ℕ, ◌+◌, ◌<◌, Bool, true, false, cond, List, [], ◌∷◌, Option, Some, map, get_or, take, length, refl, sym, ap, subst, ◌∙◌}
 use Rattle.std.specs.Prelude.{◌||◌, Contains, IfSome, is_some}
 use Rattle.std.specs.List.{list_any}
 use Rattle.std.specs.Str.{bytes_eq}
@@ -45,8 +45,8 @@ named_more {X} bytes v old new q path packages i p below here same_path same_nam
       | false ↦ known ∙ sym (or-false _)
     ] in
     let put : bytes_eq path q ≡ true → Contains {X = Pair} (map pair_of packages) (q, bytes v) = λ e.
-        let at : p.path ≡ q = sym same_path ∙ (bytes_eq-Decides path q).0 e in
-        subst (λ (x : Pair). Contains {X = Pair} (map pair_of packages) x) (λ t. (at t, sym same_name t)) (here_is packages i p below here) in
+    let at : p.path ≡ q = sym same_path ∙ (bytes_eq-Decides path q).0 e in
+    subst (λ (x : Pair). Contains {X = Pair} (map pair_of packages) x) (λ t. (at t, sym same_name t)) (here_is packages i p below here) in
     let second : (b : Bool) → (b ≡ true → Contains {X = Pair} (map pair_of packages) (q, bytes v)) → G (cond b (Some v) old) = λ b. elim b as (λ c. (c ≡ true → Contains {X = Pair} (map pair_of packages) (q, bytes v)) → G (cond c (Some v) old)) [
       | true ↦ λ h. h refl
       | false ↦ λ _. has

@@ -1,11 +1,10 @@
 -- The files of one package, as they are lent.
-use Rattle.std.proofs.Common.{◌≡◌, ℕ, ◌+◌, ◌<◌, ◌≤◌, Bool, true, false, cond, not, Bor, List, [], ◌∷◌, Option, Some, None, map, get_or, drop, take, length, refl, sym, ap, ◌∙◌, arith}
+use Rattle.std.proofs.Common.{◌≡◌, ℕ, ◌+◌, ◌<◌, ◌≤◌, Bool, true, false, cond, not, Bor, List, [], ◌∷◌, Option, Some, None, map, get_or, drop, length, refl, sym, ap, ◌∙◌}
 use Rattle.std.specs.Prelude.{◌&&◌, filter}
 use Rattle.std.specs.List.{find, slice_get}
 use Rattle.std.specs.Option.{option_copied, option_map, option_map_or}
 use Rattle.std.proofs.lemmas.List.{drop_all}
 use Rattle.package_group.specs.declared.facts.FileFact.{FileFact}
-use Rattle.package_group.specs.declared.facts.Package.{Package}
 use Rattle.package_group.specs.Groups.{Member, files_of, folder_of, has_name, name_of, package_of, places, without_test}
 use Rattle.package_group.specs.Steps.{Lent, seen}
 use Rattle.package_group.proofs.Lists.{filter-map, find-drop, map-map}

@@ -1,16 +1,13 @@
 -- What the maps of the code say, as packages of files.
-use Rattle.std.proofs.Common.{Vec, ◌≡◌, ℕ, ◌+◌, ◌<◌, Bool, true, false, cond, not, List, [], ◌∷◌, Option, Some, None, MatchOption, map, get_or, length, All, refl, sym, ap, subst, ◌∙◌, string_bytes, true≢false}
-use Rattle.std.specs.Prelude.{◌||◌}
+use Rattle.std.proofs.Common.{Vec, ◌≡◌, ℕ, Bool, true, not, List, [], ◌∷◌, Option, Some, None, map, get_or, All, refl, sym, ap, subst, ◌∙◌, string_bytes, true≢false}
 use Rattle.std.specs.BTreeMap.{BTreeMap, keys, get_by_text, is_at, IsOrdered}
 use Rattle.std.specs.Cmp.Lexicographic.{slice_cmp}
 use Rattle.std.specs.List.{AllByRecursion, Contains, filter, list_any, enumerate_from}
 use Rattle.std.specs.List.Sorted.{IsStrictlySortedBy}
-use Rattle.std.specs.Map.{lookup}
 use Rattle.std.specs.Option.{IfSome, is_some, option_map, option_map_or}
 use Rattle.std.specs.Ordering.{nat_cmp}
 use Rattle.std.specs.Str.{bytes_eq}
 use Rattle.std.specs.String.{string_cmp, string_cmp_total}
-use Rattle.std.specs.declared.alloc.Global.{Global}
 use Rattle.std.specs.declared.cmp.Ordering.TheVariants.{Less}
 use Rattle.std.specs.declared.string.String.{String}
 use Rattle.std.proofs.lemmas.List.Elements.{All-contains, All-contains_itself, All-map, All-weaker}
@@ -20,8 +17,7 @@ use Rattle.std.proofs.lemmas.Option.{slice_get-get_or}
 use Rattle.tree_io.specs.Path.{IsRising}
 use Rattle.package_group.specs.declared.facts.FileFact.{FileFact}
 use Rattle.package_group.specs.declared.facts.Package.{Package}
-use Rattle.package_group.specs.declared.facts.Grouped.{Grouped}
-use Rattle.package_group.specs.Groups.{IsGrouping, Member, files_of, has_name, is_own, members_at, name_of, package_of, path_of, places}
+use Rattle.package_group.specs.Groups.{IsGrouping, Member, files_of, is_own, members_at, name_of, package_of, path_of, places}
 use Rattle.package_group.specs.Steps.{ArePlaced, Lent, Placed, is_beside, placed_by, placed_of, seen}
 use Rattle.package_group.proofs.Lists.{All-enumerate_from, bytes_eq-same, filter-map, filter_same, is_some-lookup, list_any-contains, list_any-map, map-enumerate_from, map-map, map-same}
 
@@ -80,8 +76,8 @@ list_any-entries path (e ∷ es) = rw (is_eq-slice_cmp path (string_bytes e.0), 
 
 -- the packages that the map of files by paths gives
 module _ {A B : Type 0} (prefix : List ℕ) (files : List FileFact) (folders : BTreeMap (String A) (Vec Lent B)) (ordered : IsOrdered string_cmp folders)
-  (members : (path : List ℕ) → map seen (option_map_or (λ (g : Vec Lent B). g.items) (get_by_text folders path) []) ≡ members_at prefix files path)
-  (paths : (path : List ℕ) → is_some (get_by_text folders path) ≡ list_any (λ file. bytes_eq path (path_of prefix file)) files) where
+    (members : (path : List ℕ) → map seen (option_map_or (λ (g : Vec Lent B). g.items) (get_by_text folders path) []) ≡ members_at prefix files path)
+    (paths : (path : List ℕ) → is_some (get_by_text folders path) ≡ list_any (λ file. bytes_eq path (path_of prefix file)) files) where
   Entry : Type 0
   Entry = String A × Vec Lent B
 
@@ -98,8 +94,8 @@ module _ {A B : Type 0} (prefix : List ℕ) (files : List FileFact) (folders : B
   pub packages-made : All IsAtPath (map made folders.entries)
   packages-made = All-map IsAtPath made folders.entries
       (λ k d below.
-        let e = get_or folders.entries k d in
-        made_at e (btree_map_get_place string_cmp_total folders k e.0 e.1 ordered (slice_get-get_or folders.entries k d below)))
+      let e = get_or folders.entries k d in
+      made_at e (btree_map_get_place string_cmp_total folders k e.0 e.1 ordered (slice_get-get_or folders.entries k d below)))
 
   pub paths-made : (path : List ℕ) → list_any (λ p. bytes_eq path p.path) (map made folders.entries) ≡ list_any (λ file. bytes_eq path (path_of prefix file)) files
   paths-made path =
@@ -109,13 +105,12 @@ module _ {A B : Type 0} (prefix : List ℕ) (files : List FileFact) (folders : B
       ∙ paths path
 
   pub rising-made : IsRising (map (λ p. p.path) (map made folders.entries))
-  rising-made = subst IsRising (sym (map-map made (λ p. p.path) folders.entries) ) (subst IsRising (map-map (λ (e : String A × Vec Lent B). e.0) string_bytes folders.entries) (IsRising-strings (keys folders) ordered))
+  rising-made = subst IsRising (sym (map-map made (λ p. p.path) folders.entries)) (subst IsRising (map-map (λ (e : String A × Vec Lent B). e.0) string_bytes folders.entries) (IsRising-strings (keys folders) ordered))
 
 -- the files beside the packages
 module _ (prefix : List ℕ) (files : List FileFact) (packages : List Package)
-  (at : All (λ p. p ≡ package_of p.path (members_at prefix files p.path)) packages)
-  (paths : (path : List ℕ) → list_any (λ p. bytes_eq path p.path) packages ≡ list_any (λ file. bytes_eq path (path_of prefix file)) files) where
-
+    (at : All (λ p. p ≡ package_of p.path (members_at prefix files p.path)) packages)
+    (paths : (path : List ℕ) → list_any (λ p. bytes_eq path p.path) packages ≡ list_any (λ file. bytes_eq path (path_of prefix file)) files) where
   -- the name at a path, by what a look-up found
   pub name_found : (names : Option (List ℕ)) (path : List ℕ) → is_some names ≡ list_any (λ p. bytes_eq path p.path) packages
       → IfSome names (λ name. Contains {X = List ℕ × List ℕ} (map (λ (p : Package). (p.path, p.name)) packages) (path, name))
@@ -124,7 +119,7 @@ module _ (prefix : List ℕ) (files : List FileFact) (packages : List Package)
   name_found (Some name) path known has there =
       let P : List ℕ × List ℕ → Type 0 = λ e. e.1 ≡ name_of (files_of (members_at prefix files e.0)) in
       let all : All P (map (λ (p : Package). (p.path, p.name)) packages) =
-          All-map P (λ (p : Package). (p.path, p.name)) packages (All-weaker (λ p. p ≡ package_of p.path (members_at prefix files p.path)) (λ p. P (p.path, p.name)) (λ p same. ap (λ (q : Package). q.name) same) packages at) in
+      All-map P (λ (p : Package). (p.path, p.name)) packages (All-weaker (λ p. p ≡ package_of p.path (members_at prefix files p.path)) (λ p. P (p.path, p.name)) (λ p same. ap (λ (q : Package). q.name) same) packages at) in
       ap Some (All-contains P _ (path, name) all has)
 
   -- the others, where names are looked up
@@ -134,9 +129,9 @@ module _ (prefix : List ℕ) (files : List FileFact) (packages : List Package)
       → filter (λ (m : Member). is_beside (b (path_of prefix m.1)) m.1) (enumerate_from 0 files) ≡ filter (λ m. not (is_own prefix files m.1)) (enumerate_from 0 files)
   others-found b known has = filter_same (λ (m : Member). is_beside (b (path_of prefix m.1)) m.1) (λ m. not (is_own prefix files m.1)) (enumerate_from 0 files)
       (All-enumerate_from (λ file. is_beside (b (path_of prefix file)) file ≡ not (is_own prefix files file)) 0 files
-        (All-weaker (Contains files) (λ file. is_beside (b (path_of prefix file)) file ≡ not (is_own prefix files file))
-          (λ file inside. ap (λ name. is_beside name file) (name_found (b (path_of prefix file)) (path_of prefix file) (known _) (has _) (list_any-contains (λ f. bytes_eq (path_of prefix file) (path_of prefix f)) files file inside (bytes_eq-same (path_of prefix file)))))
-          files (All-contains_itself files)))
+      (All-weaker (Contains files) (λ file. is_beside (b (path_of prefix file)) file ≡ not (is_own prefix files file))
+      (λ file inside. ap (λ name. is_beside name file) (name_found (b (path_of prefix file)) (path_of prefix file) (known _) (has _) (list_any-contains (λ f. bytes_eq (path_of prefix file) (path_of prefix f)) files file inside (bytes_eq-same (path_of prefix file)))))
+      files (All-contains_itself files)))
 
 is_some-map : {X Y : Type 0} (f : X → Y) (o : Option X) → is_some (option_map f o) ≡ is_some o
 is_some-map f None = refl
@@ -164,8 +159,8 @@ is_grouping {A} {B} {C} {D} {E} prefix files placed folders names packages other
     let all_paths = λ (path : List ℕ). ap (list_any (λ (p : Package). bytes_eq path p.path)) made_is ∙ paths-made prefix files folders ordered members' paths' path in
     let b : List ℕ → Option (List ℕ) = λ path. option_map string_bytes (get_by_text names path) in
     let rest = others-found prefix files packages at all_paths b
-        (λ path. is_some-map string_bytes (get_by_text names path) ∙ known path)
-        (λ path. IfSome-map string_bytes (λ name. Contains {X = List ℕ × List ℕ} (map (λ (p : Package). (p.path, p.name)) packages) (path, name)) (get_by_text names path) (has path)) in
+    (λ path. is_some-map string_bytes (get_by_text names path) ∙ known path)
+    (λ path. IfSome-map string_bytes (λ name. Contains {X = List ℕ × List ℕ} (map (λ (p : Package). (p.path, p.name)) packages) (path, name)) (get_by_text names path) (has path)) in
     record {
       packages = at;
       paths = all_paths;

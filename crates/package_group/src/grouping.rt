@@ -78,7 +78,10 @@ fn group_by_path<'a>(
 }
 
 /// The packages, by the files of each.
-fn make_packages(alloc: Global, folders: &BTreeMap<String, Vec<(u32, &FileFact)>>) -> Mem<Seq<Package>>
+fn make_packages(
+    alloc: Global,
+    folders: &BTreeMap<String, Vec<(u32, &FileFact)>>,
+) -> Mem<Seq<Package>>
     ensures ordered { OnOk result (IsOrdered string_cmp folders.now) }
     ensures packages { IfOk result (λ packages. packages
         ≡ map (λ folder. package_of (string_bytes folder.0) (map seen folder.1.items)) folders.now.entries) }

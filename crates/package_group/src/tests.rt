@@ -39,7 +39,13 @@ fn files_are_grouped_by_their_folders(rt: HostRuntime) -> Result<(), Fail> {
         ("no file", &[], "", "[]"),
         (
             "a folder's files need not stand side by side",
-            &[("a-b/y.go", "y", false), ("a.go", "main", false), ("a/x.go", "a", false), ("a/z/w.go", "z", false), ("a/zz.go", "a", false)],
+            &[
+                ("a-b/y.go", "y", false),
+                ("a.go", "main", false),
+                ("a/x.go", "a", false),
+                ("a/z/w.go", "z", false),
+                ("a/zz.go", "a", false),
+            ],
             "",
             "_  main [1] []\na a a [2, 4] []\na-b a-b y [0] []\na/z a/z z [3] []\n[]",
         ),
@@ -51,7 +57,11 @@ fn files_are_grouped_by_their_folders(rt: HostRuntime) -> Result<(), Fail> {
         ),
         (
             "the root without a prefix stands among the others",
-            &[("B/c.go", "c", false), ("a.go", "main", false), ("b/c.go", "c", false)],
+            &[
+                ("B/c.go", "c", false),
+                ("a.go", "main", false),
+                ("b/c.go", "c", false),
+            ],
             "",
             "B B c [0] []\n_  main [1] []\nb b c [2] []\n[]",
         ),
@@ -68,7 +78,11 @@ fn a_package_has_the_name_of_its_files(rt: HostRuntime) -> Result<(), Fail> {
     let cases: &[(&str, &[Case], &str)] = &[
         (
             "a folder of tests alone",
-            &[("x/a_test.go", "x_test", true), ("x/b_test.go", "x", true), ("x/c_test.go", "y", true)],
+            &[
+                ("x/a_test.go", "x_test", true),
+                ("x/b_test.go", "x", true),
+                ("x/c_test.go", "y", true),
+            ],
             "x x x [] [0, 1]\n[2]",
         ),
         (
@@ -78,17 +92,28 @@ fn a_package_has_the_name_of_its_files(rt: HostRuntime) -> Result<(), Fail> {
         ),
         (
             "a file that is no test and is named x_test",
-            &[("x/a.go", "x_test", false), ("x/b.go", "x", false), ("x/c_test.go", "x_test_test", true)],
+            &[
+                ("x/a.go", "x_test", false),
+                ("x/b.go", "x", false),
+                ("x/c_test.go", "x_test_test", true),
+            ],
             "x x x_test [0] [2]\n[1]",
         ),
         (
             "a file of another package first by path",
-            &[("x/a_test.go", "other", true), ("x/b.go", "x", false), ("x/c.go", "other", false)],
+            &[
+                ("x/a_test.go", "other", true),
+                ("x/b.go", "x", false),
+                ("x/c.go", "other", false),
+            ],
             "x x x [1] []\n[0, 2]",
         ),
         (
             "nothing stands before _test",
-            &[("x/a_test.go", "_test", true), ("x/b_test.go", "_test_test", true)],
+            &[
+                ("x/a_test.go", "_test", true),
+                ("x/b_test.go", "_test_test", true),
+            ],
             "x x _test [] [0, 1]\n[]",
         ),
     ];

@@ -1,6 +1,3 @@
-use Rattle.std.proofs.Common.{List, String, Global, ℕ, sym, subst, map, ap, ◌∙◌, ◌≡◌}
-use Rattle.package_group.specs.declared.facts.Package.{Package}
-use Rattle.package_group.specs.Steps.{ArePlaced, Lent}
 use Rattle.package_group.proofs.Whole.{is_grouping}
 use Rattle.package_group.proofs.grouping.group.Goals as goal
 

@@ -1,4 +1,4 @@
-use Rattle.std.proofs.Common.{◌≡◌, ◌&&◌, not, filter, map, take}
+use Rattle.std.proofs.Common.{◌≡◌, ◌&&◌, filter, map, take}
 use Rattle.package_group.specs.Groups.{has_name}
 use Rattle.package_group.proofs.grouping.own_tests.Given as goal
 

@@ -1,4 +1,4 @@
-use Rattle.std.proofs.Common.{◌∙◌, sym, ap, arith}
+use Rattle.std.proofs.Common.{◌∙◌, ap}
 use Rattle.package_group.specs.Groups.{without_test}
 use Rattle.package_group.proofs.Members.{name_of-found, name_of-none, name_of-some}
 use Rattle.package_group.proofs.names.name_of.Goals as goal
