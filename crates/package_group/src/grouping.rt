@@ -1,6 +1,6 @@
 //! Grouping files by their folders.
 
-ghost use Rattle.std.specs.Prelude.{◌≡◌, ◌&&◌, not, Contains, IfOk, IfSome, OnOk, List, ℕ, [], filter, map, string_bytes, is_some};
+ghost use Rattle.std.specs.Prelude.{◌≡◌, ◌<◌, ◌^◌, length, ◌&&◌, not, Contains, IfOk, IfSome, OnOk, List, ℕ, [], filter, map, string_bytes, is_some};
 ghost use Rattle.std.specs.BTreeMap.{IsOrdered, get_by_text};
 ghost use Rattle.std.specs.List.{list_any, slice_get};
 ghost use Rattle.std.specs.Option.{option_copied, option_map, option_map_or};
@@ -12,13 +12,14 @@ ghost use Rattle.package_group.specs.Steps.{ArePlaced, is_beside, placed_by, pla
 use crate::facts::{FileFact, Grouped, Package};
 use crate::folders::{folder_of, import_path};
 use crate::names::{has_name, name_of};
-use plain_data::{Mem, NoMemory, Seq, Txt};
+use plain_data::{Mem, Seq, Txt};
 use std::alloc::Global;
 use std::collections::BTreeMap;
 
 /// The packages that files make up: one for each folder. A file whose name is not that of the
 /// package in its folder is one of the others.
 pub fn group(alloc: Global, files: &[FileFact], prefix: &str) -> Mem<Grouped>
+    requires few { length files.now < 2 ^ 32 }
     ensures { IfOk result (IsGrouping prefix.now files.now) }
 {
     let placed = place_files(alloc, files, prefix)?;
@@ -35,6 +36,7 @@ fn place_files<'a>(
     files: &'a [FileFact],
     prefix: &str,
 ) -> Mem<Vec<(String, (u32, &'a FileFact))>>
+    requires { length files.now < 2 ^ 32 }
     ensures { IfOk result (λ placed. ArePlaced prefix.now files.now placed.items) }
 {
     let mut placed = Vec::new(alloc);
@@ -51,10 +53,11 @@ fn place_file<'a>(
     place: usize,
     file: &'a FileFact,
 ) -> Mem<(String, (u32, &'a FileFact))>
+    requires { place < 2 ^ 32 }
     ensures { IfOk result (λ placed. placed_of placed ≡ placed_by prefix.now (place, file.now)) }
 {
     let path = import_path(alloc, prefix, folder_of(file.path.as_str()))?;
-    let place = u32::try_from(place).map_err(|_| NoMemory)?;
+    let place = place as u32;
     Ok((path, (place, file)))
 }
 
