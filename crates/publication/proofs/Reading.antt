@@ -9,7 +9,7 @@ use mathlib.Core.List.{IsPrefix}
 use Rattle.logbook.specs.declared.tokens.Seen.{Seen}
 use Rattle.publication.specs.View.{EndsWith, IsView, StartsWith}
 use Rattle.publication.specs.Chronicle.{editions_of, IsOpen}
-use Rattle.publication.specs.Readers.{IsTold, IsReader, IsNoted, SeesMore, SeesNothing, Notes, view_by}
+use Rattle.publication.specs.Readers.{IsTold, IsReader, IsNoted, SeesMore, SeesNothing, Notes, NotesLook, Glimpses, view_by}
 use Rattle.publication.specs.declared.knowledge.Knowledge.{Knowledge}
 use Rattle.publication.specs.declared.rule.Sight.{Sight}
 use Rattle.publication.specs.declared.chronicle.Chronicle.{Chronicle}
@@ -94,6 +94,15 @@ module _ {E : Type 0} where
     settled = t.settled;
   }
 
+  pub sees_from : (before mid after : Sight E) (known some all : Token E) → Glimpses before mid known some → SeesMore mid after some all → SeesMore before after known all
+  sees_from before mid after known some all g t =
+      ⊎_elim (λ (s : SeesNothing before mid known some). subst (λ (z : Token E). SeesMore before after z all) s.1 (subst (λ (z : Sight E). SeesMore z after some all) s.0 t))
+      (λ (s : SeesMore before mid known some). sees_then before mid after known some all s t) g.sees
+
+  pub glimpses_from : (before mid after : Sight E) (known some all : Token E) → Glimpses before mid known some → SeesNothing mid after some all → Glimpses before after known all
+  glimpses_from before mid after known some all g n =
+      subst (λ (z : Token E). Glimpses before after known z) (sym n.1) (subst (λ (z : Sight E). Glimpses before z known some) (sym n.0) g)
+
   -- a reader sees no less than it had seen
   pub seen_later : (before after : Sight E) (seen : Token E) (count : ℕ) (known : Knowledge E) (all : Token E) → IsReader before seen count known → SeesMore before after known.all all → StartsWith after.seen.log seen.log
   seen_later before after seen count known all r s = starts_then seen.log before.seen.log after.seen.log r.within s.later
@@ -144,6 +153,9 @@ module _ {E : Type 0} where
 
     pub gains : Notes before after → after.entries ≡ before.entries ++ length (editions_of noted.log) ∷ []
     gains notes = notes ∙ ap (λ k. before.entries ++ k ∷ []) (sym (ap (λ l. length (editions_of l)) n.is ∙ editions_length after.seen.log s.unclosed))
+
+    pub gains_look : NotesLook before after → after.looks ≡ before.looks ++ length (editions_of noted.log) ∷ []
+    gains_look notes = notes ∙ ap (λ k. before.looks ++ k ∷ []) (sym (ap (λ l. length (editions_of l)) n.is ∙ editions_length after.seen.log s.unclosed))
 
     pub number_is : length after.seen.log ≡ length (editions_of noted.log)
     number_is = sym (ap (λ l. length (editions_of l)) n.is ∙ editions_length after.seen.log s.unclosed)

@@ -10,7 +10,7 @@ use Rattle.publication.specs.Chronicle.{IsOpen}
 use Rattle.publication.specs.Slots.{IsSound, shown}
 use Rattle.publication.specs.declared.slot.Slot.{Slot}
 use Rattle.publication.specs.declared.rule.Sight.{Sight}
-use Rattle.publication.specs.Rule.{Knows, Holds, SeesAt, EntersAt, LooksAt, OpensAt, seeing, noting, told_of, blank}
+use Rattle.publication.specs.Rule.{Knows, Holds, SeesAt, EntersAt, LooksAt, GlancesAt, OpensAt, seeing, noting_entry, noting_look, told_of, blank}
 
 module _ {E : Type 0} where
   pub starts_same : (list : List E) → StartsWith list list
@@ -51,13 +51,20 @@ module _ {E : Type 0} where
 
   pub enters : (seat : ℕ) (sight : Sight E) (slot : Slot E) → TurnsAt Holds seat sight slot slot EntersAt
   enters seat sight slot sights h at = let mine = h.1 seat sight at in (
-    noting slot sight,
-    turned seat slot sights (noting slot sight) h.0 (knows_now slot sight (noting slot sight) refl) h.1,
+    noting_entry slot sight,
+    turned seat slot sights (noting_entry slot sight) h.0 (knows_now slot sight (noting_entry slot sight) refl) h.1,
     record { same = mine.same; later = mine.begins; sound = h.0; is = refl },
   )
 
   pub looks : (seat : ℕ) (sight : Sight E) (slot : Slot E) → TurnsAt Holds seat sight slot slot LooksAt
   looks seat sight slot sights h at = let mine = h.1 seat sight at in (
+    noting_look slot sight,
+    turned seat slot sights (noting_look slot sight) h.0 (knows_now slot sight (noting_look slot sight) refl) h.1,
+    record { same = mine.same; later = mine.begins; sound = h.0; is = refl },
+  )
+
+  pub glances : (seat : ℕ) (sight : Sight E) (slot : Slot E) → TurnsAt Holds seat sight slot slot GlancesAt
+  glances seat sight slot sights h at = let mine = h.1 seat sight at in (
     seeing slot sight,
     turned seat slot sights (seeing slot sight) h.0 (knows_now slot sight (seeing slot sight) refl) h.1,
     record { same = mine.same; later = mine.begins; sound = h.0; is = refl },

@@ -1,5 +1,5 @@
 -- For proofs: what a reader knows of its history, by the logs that were reached. No public clause cites it.
-use Rattle.std.specs.Prelude.{◌≡◌, ℕ, ◌≤◌, true, List, [], ◌∷◌, ◌++◌, length, All, Option, None}
+use Rattle.std.specs.Prelude.{◌≡◌, ℕ, ◌≤◌, ◌⊎◌, true, List, [], ◌∷◌, ◌++◌, length, All, Option, None}
 use Rattle.std.specs.List.Sorted.{IsNonDecreasing}
 use mathlib.Core.List.{IsPrefix}
 use Rattle.logbook.specs.declared.tokens.Seen.{Seen}
@@ -22,6 +22,7 @@ module _ {E : Type 0} where
     told = editions_of known.told.log;
     closed = known.closed;
     entries = sight.entries;
+    looks = sight.looks;
   }
 
   -- what was told begins all that is known, and where it is closed, nothing but the closing entry follows
@@ -60,13 +61,25 @@ module _ {E : Type 0} where
     pub begins : IsPrefix after.seen.log all.log
     pub settled : IsSettled all.log
 
-  -- and notes it
+  -- and notes it as an entry
   abbrev pub Notes : Sight E → Sight E → Type 0
   Notes before after = after.entries ≡ before.entries ++ length after.seen.log ∷ []
+
+  -- and notes it as a look
+  abbrev pub NotesLook : Sight E → Sight E → Type 0
+  NotesLook before after = after.looks ≡ before.looks ++ length after.seen.log ∷ []
 
   -- nothing was seen
   abbrev pub SeesNothing : {P : Type 0} → Sight E → Sight E → Seen (Option E) ℕ P → Seen (Option E) ℕ P → Type 0
   SeesNothing before after known all = (after ≡ before) × (all ≡ known)
+
+  -- more was seen or nothing, and nothing was noted
+  pub record Glimpses {P : Type 0} (before after : Sight E) (known all : Seen (Option E) ℕ P) : Type 0 where
+    pub entries : after.entries ≡ before.entries
+    pub looks : after.looks ≡ before.looks
+    pub opened : after.opened ≡ true
+    pub book : all.book ≡ after.seen.book
+    pub sees : SeesNothing before after known all ⊎ SeesMore before after known all
 
   -- what was seen in a step, as the reader keeps it
   pub record IsNoted {P : Type 0} (after : Sight E) (seen : Seen (Option E) ℕ P) (count : ℕ) : Type 0 where

@@ -37,10 +37,12 @@ pub record View (E : Type 0) : Type 0 where
   pub closed : Bool
   -- the numbers of the editions that it was given, in the order of its entries
   pub entries : List ℕ
+  -- the numbers of the editions that were the newest at its looks, in their order
+  pub looks : List ℕ
 
--- a reader that has seen nothing, was told of the history at the opening, and has no entry
+-- a reader that has seen nothing, was told of the history at the opening, and has no entry and no look
 abbrev pub newcomer : {E : Type 0} → Opening E → View E
-newcomer opening = record { opening = opening; seen = []; told = opening.editions; closed = false; entries = [] }
+newcomer opening = record { opening = opening; seen = []; told = opening.editions; closed = false; entries = []; looks = [] }
 
 -- What holds of every view.
 pub record IsView {E : Type 0} (view : View E) : Type 0 where
@@ -69,6 +71,10 @@ pub record ShareHistory {E : Type 0} (one other : View E) : Type 0 where
 abbrev pub GainsEntry : {E : Type 0} → View E → View E → Type 0
 GainsEntry old new = new.entries ≡ old.entries ++ length new.seen ∷ []
 
+-- the view gained one look, at which the newest edition was the last that it has seen
+abbrev pub GainsLook : {E : Type 0} → View E → View E → Type 0
+GainsLook old new = new.looks ≡ old.looks ++ length new.seen ∷ []
+
 -- how the three are stored in a proof
 abbrev pub opening_code : {E : Type 0} → Coded E → Coded (Opening E)
 opening_code {E} code =
@@ -83,7 +89,9 @@ history_code {E} code =
 
 abbrev pub view_code : {E : Type 0} → Coded E → Coded (View E)
 view_code {E} code =
-    code_by ((Opening E × List E) × (List E × (Bool × List ℕ))) (coded× (coded× (opening_code code) (coded_list code)) (coded× (coded_list code) (coded× coded_bool (coded_list coded_ℕ))))
-    (λ view. ((view.opening, view.seen), (view.told, (view.closed, view.entries))))
-    (λ p. record { opening = p.0.0; seen = p.0.1; told = p.1.0; closed = p.1.1.0; entries = p.1.1.1 })
+    code_by ((Opening E × List E) × ((List E × Bool) × (List ℕ × List ℕ)))
+    (coded× (coded× (opening_code code) (coded_list code))
+    (coded× (coded× (coded_list code) coded_bool) (coded× (coded_list coded_ℕ) (coded_list coded_ℕ))))
+    (λ view. ((view.opening, view.seen), ((view.told, view.closed), (view.entries, view.looks))))
+    (λ p. record { opening = p.0.0; seen = p.0.1; told = p.1.0.0; closed = p.1.0.1; entries = p.1.1.0; looks = p.1.1.1 })
     (λ _. refl)

@@ -3,12 +3,12 @@
 ghost use Rattle.std.specs.Prelude.{◌≡◌, ℕ, ◌≤◌, ◌⊎◌, Some, true, false, IsTrue, [], ◌∷◌, ◌++◌, length, IfOk, OnOk, OnErr, ◌||◌};
 ghost use Rattle.std.specs.Arc.{arc_value};
 ghost use Rattle.left_right.specs.Sides.{view as sight};
-ghost use Rattle.publication.specs.View.{EndsWith, GainsEntry, IsView, ShareHistory, StartsWith};
-ghost use Rattle.publication.specs.Readers.{IsNoted, IsReader, IsTold, Notes, SeesMore, SeesNothing, history_by, view_by};
+ghost use Rattle.publication.specs.View.{EndsWith, GainsEntry, GainsLook, IsView, ShareHistory, StartsWith};
+ghost use Rattle.publication.specs.Readers.{Glimpses, IsNoted, IsReader, IsTold, Notes, NotesLook, SeesMore, SeesNothing, history_by, view_by};
 
 use crate::chronicle::Token;
 use crate::knowledge::{Knowledge, joined};
-use crate::rule::{Enters, Looks, PublicationRule, Sight};
+use crate::rule::{Enters, Glances, Looks, PublicationRule, Sight};
 use crate::slot::Slot;
 use core::mem::replace_with;
 use left_right::reader::Reader;
@@ -120,6 +120,7 @@ fn enter_once<E: Drop>(
 ) -> (SlotReader<E>, (Token<E>, Mem<Noted<E>>))
     requires opened { (sight reader.place).opened ≡ true }
     requires book { known.book ≡ (sight reader.place).seen.book }
+    ensures looks { (sight result.0.place).looks ≡ (sight reader.place).looks }
     ensures ok { OnOk result.1.1 (SeesMore (sight reader.place)
         (sight result.0.place) known result.1.0
         × Notes (sight reader.place) (sight result.0.place)) }
@@ -146,10 +147,66 @@ fn enter_once<E: Drop>(
     }
 }
 
+// Looks once. It gives back the reader, and what is known then.
+fn look_once<E: Drop>(
+    reader: SlotReader<E>,
+    known: Token<E>,
+) -> (SlotReader<E>, (Token<E>, Mem<Sighting<E>>))
+    requires opened { (sight reader.place).opened ≡ true }
+    requires book { known.book ≡ (sight reader.place).seen.book }
+    ensures entries { (sight result.0.place).entries ≡ (sight reader.place).entries }
+    ensures ok { OnOk result.1.1 (SeesMore (sight reader.place)
+        (sight result.0.place) known result.1.0
+        × NotesLook (sight reader.place) (sight result.0.place)) }
+    ensures seen { IfOk result.1.1 (λ sighting. IsNoted
+        (sight result.0.place) sighting.seen sighting.count) }
+    ensures err { OnErr result.1.1 (SeesNothing (sight reader.place)
+        (sight result.0.place) known result.1.0) }
+{
+    match reader.enter_as::<Looks>() {
+        Err(reader) => (reader, (known, Err(NoMemory))),
+        Ok(reading) => {
+            let slot = reading.get();
+            let mut known = known;
+            known.learn(&slot.log);
+            let sighting = sighting_of(slot);
+            (reading.leave(), (known, Ok(sighting)))
+        }
+    }
+}
+
+// Sees once what is published, and notes nothing. It gives back the reader, and what is known then.
+fn glance_once<E: Drop>(
+    reader: SlotReader<E>,
+    known: Token<E>,
+    least: u64,
+) -> (SlotReader<E>, (Token<E>, Mem<()>))
+    requires opened { (sight reader.place).opened ≡ true }
+    requires book { known.book ≡ (sight reader.place).seen.book }
+    ensures glimpses { Glimpses (sight reader.place) (sight result.0.place) known result.1.0 }
+    ensures late { OnOk result.1.1 (least ≤ length (sight result.0.place).seen.log) }
+{
+    match reader.enter_as::<Glances>() {
+        Err(reader) => (reader, (known, Err(NoMemory))),
+        Ok(reading) => {
+            let slot = reading.get();
+            let mut known = known;
+            known.learn(&slot.log);
+            let is_late = if slot.number < least {
+                Err(NoMemory)
+            } else {
+                Ok(())
+            };
+            (reading.leave(), (known, is_late))
+        }
+    }
+}
+
 // Enters once through a reference. It gives back what is known then.
 fn enter_at<E: Drop>(reader: &mut SlotReader<E>, known: Token<E>) -> (Token<E>, Mem<Noted<E>>)
     requires opened { (sight reader.old.place).opened ≡ true }
     requires book { known.book ≡ (sight reader.old.place).seen.book }
+    ensures looks { (sight reader.new.place).looks ≡ (sight reader.old.place).looks }
     ensures ok { OnOk result.1 (SeesMore (sight reader.old.place)
         (sight reader.new.place) known result.0
         × Notes (sight reader.old.place) (sight reader.new.place)) }
@@ -164,66 +221,46 @@ fn enter_at<E: Drop>(reader: &mut SlotReader<E>, known: Token<E>) -> (Token<E>, 
     replace_with(reader, known, |reader, known| enter_once(reader, known))
 }
 
-// Looks once. It gives back the reader, and what is known then.
-fn look_once<E: Drop>(
-    reader: SlotReader<E>,
-    known: Token<E>,
-    least: u64,
-) -> (SlotReader<E>, (Token<E>, Mem<Sighting<E>>))
-    requires opened { (sight reader.place).opened ≡ true }
-    requires book { known.book ≡ (sight reader.place).seen.book }
-    ensures entries { (sight result.0.place).entries ≡ (sight reader.place).entries }
-    ensures ok { OnOk result.1.1 (SeesMore (sight reader.place)
-        (sight result.0.place) known result.1.0
-        × (least ≤ length (sight result.0.place).seen.log)) }
-    ensures seen { IfOk result.1.1 (λ sighting. IsNoted
-        (sight result.0.place) sighting.seen sighting.count) }
-    ensures err { OnErr result.1.1 (SeesNothing (sight reader.place)
-        (sight result.0.place) known result.1.0
-        ⊎ SeesMore (sight reader.place) (sight result.0.place) known result.1.0) }
-{
-    match reader.enter_as::<Looks>() {
-        Err(reader) => (reader, (known, Err(NoMemory))),
-        Ok(reading) => {
-            let slot = reading.get();
-            let mut known = known;
-            known.learn(&slot.log);
-            let sighting = if slot.number < least {
-                Err(NoMemory)
-            } else {
-                Ok(sighting_of(slot))
-            };
-            (reading.leave(), (known, sighting))
-        }
-    }
-}
-
 // Looks once through a reference. It gives back what is known then.
-fn look_at<E: Drop>(
-    reader: &mut SlotReader<E>,
-    known: Token<E>,
-    least: u64,
-) -> (Token<E>, Mem<Sighting<E>>)
+fn look_at<E: Drop>(reader: &mut SlotReader<E>, known: Token<E>) -> (Token<E>, Mem<Sighting<E>>)
     requires opened { (sight reader.old.place).opened ≡ true }
     requires book { known.book ≡ (sight reader.old.place).seen.book }
     ensures entries { (sight reader.new.place).entries ≡ (sight reader.old.place).entries }
     ensures ok { OnOk result.1 (SeesMore (sight reader.old.place)
         (sight reader.new.place) known result.0
-        × (least ≤ length (sight reader.new.place).seen.log)) }
+        × NotesLook (sight reader.old.place) (sight reader.new.place)) }
     ensures seen { IfOk result.1 (λ sighting. IsNoted
         (sight reader.new.place) sighting.seen sighting.count) }
     ensures err { OnErr result.1 (SeesNothing (sight reader.old.place)
-        (sight reader.new.place) known result.0
-        ⊎ SeesMore (sight reader.old.place) (sight reader.new.place) known result.0) }
+        (sight reader.new.place) known result.0) }
 {
+    replace_with(reader, known, |reader, known| look_once(reader, known))
+}
+
+// Sees what is published where more was told than this reader has seen, so that it has seen no less then.
+fn catch_up<E: Drop>(
+    reader: &mut SlotReader<E>,
+    known: Token<E>,
+    least: u64,
+    is_behind: bool,
+) -> (Token<E>, Mem<()>)
+    requires opened { (sight reader.old.place).opened ≡ true }
+    requires book { known.book ≡ (sight reader.old.place).seen.book }
+    requires late { is_behind ≡ false → least ≤ length (sight reader.old.place).seen.log }
+    ensures glimpses { Glimpses (sight reader.old.place) (sight reader.new.place) known result.0 }
+    ensures late { OnOk result.1 (least ≤ length (sight reader.new.place).seen.log) }
+{
+    if !is_behind {
+        return (known, Ok(()));
+    }
     replace_with(
         reader,
         known,
-        |reader, known| look_once(reader, known, least),
+        |reader, known| glance_once(reader, known, least),
     )
 }
 
-// Enters once, after a look where more was told than this reader has seen: so what is noted is no older.
+// Enters once. What is noted is no older than what was told.
 fn enter_informed<E: Drop>(
     reader: &mut SlotReader<E>,
     known: Token<E>,
@@ -233,6 +270,7 @@ fn enter_informed<E: Drop>(
     requires opened { (sight reader.old.place).opened ≡ true }
     requires book { known.book ≡ (sight reader.old.place).seen.book }
     requires late { is_behind ≡ false → least ≤ length (sight reader.old.place).seen.log }
+    ensures looks { (sight reader.new.place).looks ≡ (sight reader.old.place).looks }
     ensures ok { OnOk result.1 (SeesMore (sight reader.old.place)
         (sight reader.new.place) known result.0
         × Notes (sight reader.old.place) (sight reader.new.place)) }
@@ -242,17 +280,38 @@ fn enter_informed<E: Drop>(
     ensures entered { IfOk result.1 (λ noted. IfOk noted.entered (λ entered.
         (entered.number ≡ length (sight reader.new.place).seen.log)
         × EndsWith (sight reader.new.place).seen.log (Some (arc_value entered.edition)))) }
-    ensures err { OnErr result.1 (((sight reader.new.place).entries ≡
-        (sight reader.old.place).entries)
-        × (SeesNothing (sight reader.old.place) (sight reader.new.place) known result.0
-        ⊎ SeesMore (sight reader.old.place) (sight reader.new.place) known result.0)) }
+    ensures err { OnErr result.1 (Glimpses (sight reader.old.place)
+        (sight reader.new.place) known result.0) }
 {
-    if !is_behind {
-        return enter_at(reader, known);
-    }
-    match look_at(reader, known, least) {
+    match catch_up(reader, known, least, is_behind) {
         (known, Err(_)) => (known, Err(NoMemory)),
-        (known, Ok(_)) => enter_at(reader, known),
+        (known, Ok(())) => enter_at(reader, known),
+    }
+}
+
+// Looks once. What is seen is no older than what was told.
+fn look_informed<E: Drop>(
+    reader: &mut SlotReader<E>,
+    known: Token<E>,
+    least: u64,
+    is_behind: bool,
+) -> (Token<E>, Mem<Sighting<E>>)
+    requires opened { (sight reader.old.place).opened ≡ true }
+    requires book { known.book ≡ (sight reader.old.place).seen.book }
+    requires late { is_behind ≡ false → least ≤ length (sight reader.old.place).seen.log }
+    ensures entries { (sight reader.new.place).entries ≡ (sight reader.old.place).entries }
+    ensures ok { OnOk result.1 (SeesMore (sight reader.old.place)
+        (sight reader.new.place) known result.0
+        × NotesLook (sight reader.old.place) (sight reader.new.place)) }
+    ensures late { OnOk result.1 (least ≤ length (sight reader.new.place).seen.log) }
+    ensures seen { IfOk result.1 (λ sighting. IsNoted
+        (sight reader.new.place) sighting.seen sighting.count) }
+    ensures err { OnErr result.1 (Glimpses (sight reader.old.place)
+        (sight reader.new.place) known result.0) }
+{
+    match catch_up(reader, known, least, is_behind) {
+        (known, Err(_)) => (known, Err(NoMemory)),
+        (known, Ok(())) => look_at(reader, known),
     }
 }
 
@@ -299,6 +358,7 @@ impl<E: Drop> EditionReader<E> {
         ensures later { StartsWith self.new.seen self.old.seen }
         ensures told { self.new.told ≡ self.old.told }
         ensures closed { self.new.closed ≡ self.old.closed }
+        ensures looks { self.new.looks ≡ self.old.looks }
         ensures view { IsView self.new }
     {
         let known = self.knowledge.all.again();
@@ -312,15 +372,19 @@ impl<E: Drop> EditionReader<E> {
         noted.entered
     }
 
-    /// Sees the history as it is at this step, which waits for nobody, without an entry.
+    /// Sees the history as it is at this step, which waits for nobody, without an entry: its view has one
+    /// look more, of the newest edition at this step, which is the last that it has seen from then on.
     ///
     /// # Errors
     ///
     /// `NoMemory` where the step is refused. The view is then as it was.
     pub fn look(&mut self) -> Mem<()>
-        ensures refused { OnErr result (self.new ≡ self.old) }
+        ensures look { OnOk result (GainsLook self.old self.new) }
         ensures informed { OnOk result (StartsWith self.new.seen self.old.told) }
         ensures last { OnOk result (IsTrue self.old.closed → self.new.seen ≡ self.old.told) }
+
+        // What stays, whatever the answer.
+        ensures refused { OnErr result (self.new ≡ self.old) }
         ensures entries { self.new.entries ≡ self.old.entries }
         ensures opening { self.new.opening ≡ self.old.opening }
         ensures later { StartsWith self.new.seen self.old.seen }
@@ -329,7 +393,8 @@ impl<E: Drop> EditionReader<E> {
         ensures view { IsView self.new }
     {
         let known = self.knowledge.all.again();
-        let (all, sighting) = look_at(&mut self.reader, known, self.knowledge.number);
+        let least = self.knowledge.number;
+        let (all, sighting) = look_informed(&mut self.reader, known, least, self.count < least);
         self.knowledge.all = all;
         let sighting = sighting?;
         self.seen = sighting.seen;
@@ -353,6 +418,7 @@ impl<E: Drop> EditionReader<E> {
         ensures one_of { (self.new.told ≡ self.old.told) ⊎ (self.new.told ≡ told.editions) }
         ensures seen { self.new.seen ≡ self.old.seen }
         ensures entries { self.new.entries ≡ self.old.entries }
+        ensures looks { self.new.looks ≡ self.old.looks }
         ensures opening { self.new.opening ≡ self.old.opening }
         ensures view { IsView self.new }
     {

@@ -10,6 +10,7 @@ use std::collections::LinkedList;
 pub struct Sight<E> {
     pub seen: Token<E>,
     pub entries: LinkedList<u64>,
+    pub looks: LinkedList<u64>,
     /// Whether it has learnt that the opening was published.
     pub opened: bool,
 }
@@ -34,13 +35,22 @@ impl<E> Outcome<Slot<E>, Sight<E>> for Enters {
     ghost then = { EntersAt };
 }
 
-/// A look: an entry that isn't noted.
+/// A look.
 pub struct Looks;
 
 impl<E> Outcome<Slot<E>, Sight<E>> for Looks {
     ghost use Rattle.publication.specs.Rule.{LooksAt};
 
     ghost then = { LooksAt };
+}
+
+/// A step by which a reader sees what is published, and notes nothing.
+pub struct Glances;
+
+impl<E> Outcome<Slot<E>, Sight<E>> for Glances {
+    ghost use Rattle.publication.specs.Rule.{GlancesAt};
+
+    ghost then = { GlancesAt };
 }
 
 /// A publication.

@@ -56,6 +56,47 @@ fn an_entry_gives_the_newest_edition_at_its_own_step(rt: HostRuntime) {
     publisher.close(&rt);
 }
 
+// Publishes an edition as far as there is memory for it, and answers the newest edition of the history then
+// with its number, where a reader is given that one. A publication takes no memory, so none is refused.
+fn publish_and_enter<R: Wait>(
+    rt: &R,
+    alloc: Global,
+    publisher: &mut Publisher<u32>,
+    reader: &mut EditionReader<u32>,
+    edition: u32,
+) -> Option<(u64, u32)>
+    requires { publisher.old.closed ≡ false }
+    ensures { publisher.new.closed ≡ false }
+{
+    let before = (publisher.count(), *publisher.latest());
+    let expected = match Arc::new(alloc, edition) {
+        Ok(made) if before.0 < u64::MAX => {
+            publisher.publish(rt, made).ok()?;
+            (before.0 + 1, edition)
+        }
+        _ => before,
+    };
+    enter(reader).filter(|entered| *entered == expected)
+}
+
+// Where the one edition is refused, for which a run lets the allocation fail, the other one is published.
+#[test]
+fn an_edition_that_is_refused_has_no_place_in_the_history(rt: HostRuntime) {
+    let alloc = rt.alloc();
+    let first = Arc::new(alloc, 7u32).expect(&rt, "edition 7");
+    let (mut publisher, mut readers) = open_editions(&rt, alloc, first, 1).expect(&rt, "open");
+    let mut r = readers.pop().expect(&rt, "r");
+    let second = publish_and_enter(&rt, alloc, &mut publisher, &mut r, 8);
+    let third = publish_and_enter(&rt, alloc, &mut publisher, &mut r, 9);
+    publisher.close(&rt);
+    let outcomes = [
+        (Some((2, 8)), Some((3, 9))),
+        (Some((1, 7)), Some((2, 9))),
+        (Some((2, 8)), Some((2, 8))),
+    ];
+    assert!(rt; outcomes.contains(&(second, third)));
+}
+
 #[test]
 fn the_last_that_is_told_stays_the_newest(rt: HostRuntime) {
     let alloc = rt.alloc();

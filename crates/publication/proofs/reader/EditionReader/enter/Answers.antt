@@ -15,8 +15,8 @@ invariant_of-self g c =
     let after = sight c.enter_informed-all.new.reader.place in
     let all = c.enter_informed-all.result.0 in
     let step = err_of c.enter_informed-all.result.1 _ _ c.in_err-noted.was c.enter_informed-all.ensures.err in
-    stayed before after c.self.inside.seen c.self.inside.count c.self.inside.knowledge all c.self.invariant step.0
-    (subst (λ token. SeesNothing before after token all ⊎ SeesMore before after token all) c.again-known.ensures step.1)
+    stayed before after c.self.inside.seen c.self.inside.count c.self.inside.knowledge all c.self.invariant step.entries
+    (subst (λ token. SeesNothing before after token all ⊎ SeesMore before after token all) c.again-known.ensures step.sees)
 
 pub returns-in_err-noted-clause-view : goal.returns-in_err-noted-clause-view
 returns-in_err-noted-clause-view g c =
