@@ -26,8 +26,10 @@ above b high = grind (arith, nat_tests)
 is_encoded : (b : ℕ) → should_percent_encode ENCODED b ≡ not (is_plain b)
 unfolding should_percent_encode
 is_encoded b = elim (cases_lt b 128) [
-  | inl low ↦ ap (λ t. not t || contains ENCODED b) (below b low) ∙ agree_below_at (contains ENCODED) (λ n. not (is_plain n)) 128 b encoded low
-  | inr high ↦ ap (λ t. not t || contains ENCODED b) (above b high) ∙ sym (ap not (plain_is_ascii b high))
+  | inl low ↦ ap (λ t. not t || contains ENCODED b) (below b low) ∙ agree_below_at
+      (contains ENCODED) (λ n. not (is_plain n)) 128 b encoded low
+  | inr high ↦ ap (λ t. not t || contains ENCODED b) (above b high)
+      ∙ sym (ap not (plain_is_ascii b high))
 ]
 
 swapped : (t : Bool) (x y : List ℕ) → cond (not t) x y ≡ cond t y x
@@ -35,12 +37,14 @@ swapped true x y = refl
 swapped false x y = refl
 
 same_byte : (b : ℕ) → encode_byte ENCODED b ≡ address_byte b
-same_byte b = ap (λ t. cond t (percent_encode_byte b) (b ∷ [])) (is_encoded b) ∙ swapped (is_plain b) (percent_encode_byte b) (b ∷ [])
+same_byte b = ap (λ t. cond t (percent_encode_byte b) (b ∷ [])) (is_encoded b)
+    ∙ swapped (is_plain b) (percent_encode_byte b) (b ∷ [])
 
 same_bytes : (path : List ℕ) → flat_map (encode_byte ENCODED) path ≡ flat_map address_byte path
 same_bytes [] = refl
 same_bytes (b ∷ path) =
-    flat_map-cons (encode_byte ENCODED) b path ∙ ap (λ t. t ++ flat_map (encode_byte ENCODED) path) (same_byte b)
+    flat_map-cons (encode_byte ENCODED) b path ∙ ap (λ t. t ++ flat_map (encode_byte ENCODED) path)
+    (same_byte b)
     ∙ ap (λ t. address_byte b ++ t) (same_bytes path) ∙ sym (flat_map-cons address_byte b path)
 
 -- percent-encoding makes addresses

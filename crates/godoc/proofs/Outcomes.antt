@@ -27,14 +27,23 @@ read_or_not bytes = ⊎_elim
     (read_or_faulty bytes)
 
 -- the text of some sources, and then that of more
-IsFindText-append : (name : List ℕ) (xs ys : Sources) (a b : List ℕ) → IsFindText name xs a → IsFindText name ys b → IsFindText name (xs ++ ys) (a ++ b)
+IsFindText-append : (name : List ℕ) (xs ys : Sources) (a b : List ℕ) → IsFindText name xs a
+    → IsFindText name ys b → IsFindText name (xs ++ ys) (a ++ b)
 IsFindText-append name [] ys a b f g = rw f g
-IsFindText-append name (x ∷ xs) ys a b f g =
-    (f.0, f.1 ++ b, f.2, IsFindText-append name xs ys f.1 b f.3 g, ap (λ t. t ++ b) f.4 ∙ append_assoc f.0 f.1 b)
+IsFindText-append name (x ∷ xs) ys a b f g = (
+  f.0,
+  f.1 ++ b,
+  f.2,
+  IsFindText-append name xs ys f.1 b f.3 g,
+  ap (λ t. t ++ b) f.4
+      ∙ append_assoc f.0 f.1 b,
+)
 
 -- the text of some paths, and then that of more
-FindsSome-append : (name : List ℕ) (ps qs : List (List ℕ)) (scans : Option (List Contents)) (a b c : ℕ) (x y : List ℕ)
-    → FindsSome name ps scans a b x → FindsSome name qs scans b c y → FindsSome name (ps ++ qs) scans a c (x ++ y)
+FindsSome-append : (name : List ℕ) (ps qs : List (List ℕ)) (scans : Option (List Contents))
+    (a b c : ℕ) (x y : List ℕ)
+    → FindsSome name ps scans a b x → FindsSome name qs scans b c y → FindsSome name
+    (ps ++ qs) scans a c (x ++ y)
 FindsSome-append name ps qs scans a b c x y f g = record {
   sources = f.sources ++ g.sources;
   read = IsReadSoFar-append scans ps qs f.sources g.sources a b c f.read g.read;
@@ -42,7 +51,8 @@ FindsSome-append name ps qs scans a b c x y f g = record {
 }
 
 -- the text of one path
-pub FindsSome-one : (name path : List ℕ) (entry : Entry) (scans : Option (List Contents)) (a b : ℕ) (lines : List ℕ)
+pub FindsSome-one : (name path : List ℕ) (entry : Entry) (scans : Option (List Contents)) (a b : ℕ)
+    (lines : List ℕ)
     → IsReadSoFar scans (path ∷ []) ((path, entry) ∷ []) a b → FindsAt name path entry lines
     → FindsSome name (path ∷ []) scans a b lines
 FindsSome-one name path entry scans a b lines read found = record {
@@ -68,12 +78,15 @@ text_of name (s ∷ sources) =
     (lines.0 ++ more.0, (lines.0, more.0, lines.1, more.1, refl))
 
 -- the paths that were not read yet have a text
-pub record Remains (name : List ℕ) (paths : List (List ℕ)) (scans : Option (List Contents)) (a b : ℕ) : Type 0 where
+pub record Remains (name : List ℕ) (paths : List (List ℕ)) (scans : Option (List Contents))
+    (a b : ℕ) : Type 0 where
   pub text : List ℕ
   pub found : FindsSome name paths scans a b text
 
-pub remains : (name : List ℕ) (paths : List (List ℕ)) (scans : Option (List Contents)) (a b : ℕ) → a ≤ b
-    → ForSome scans (λ told. All (λ path. IsSome (bytes_at (under_way told) path)) paths) → Remains name paths scans a b
+pub remains : (name : List ℕ) (paths : List (List ℕ)) (scans : Option (List Contents)) (a b : ℕ)
+    → a ≤ b
+    → ForSome scans (λ told. All (λ path. IsSome (bytes_at (under_way told) path)) paths)
+    → Remains name paths scans a b
 remains name paths scans a b later known =
     let sources = IsReadSoFar-known scans paths a b later known in
     let text = text_of name sources.0 in record {
@@ -81,7 +94,8 @@ remains name paths scans a b later known =
       found = record { sources = sources.0; read = sources.1; all = text.1 };
     }
 
-pub Adds-append : (h h' h'' : Option (List ℕ)) (x y : List ℕ) → Adds h x h' → Adds h' y h'' → Adds h (x ++ y) h''
+pub Adds-append : (h h' h'' : Option (List ℕ)) (x y : List ℕ) → Adds h x h' → Adds h' y h''
+    → Adds h (x ++ y) h''
 Adds-append None h' h'' x y f g = rw f at g
 Adds-append (Some held) h' h'' x y f g = (rw f at g) ∙ ap Some (append_assoc held x y)
 
@@ -90,15 +104,18 @@ Adds-nil None = refl
 Adds-nil (Some held) = ap Some (sym (append-nil held))
 
 -- nothing written yet
-pub WritesSome-nil : (name : List ℕ) (scans : Option (List Contents)) (a : ℕ) (h : Option (List ℕ)) → WritesSome name [] scans a a h h
+pub WritesSome-nil : (name : List ℕ) (scans : Option (List Contents)) (a : ℕ) (h : Option (List ℕ))
+    → WritesSome name [] scans a a h h
 WritesSome-nil name scans a h = record {
   text = [];
   found = record { sources = []; read = IsReadSoFar-nothing scans a; all = refl };
   written = Adds-nil h;
 }
 
-pub WritesSome-append : (name : List ℕ) (ps qs : List (List ℕ)) (scans : Option (List Contents)) (a b c : ℕ) (h h' h'' : Option (List ℕ))
-    → WritesSome name ps scans a b h h' → WritesSome name qs scans b c h' h'' → WritesSome name (ps ++ qs) scans a c h h''
+pub WritesSome-append : (name : List ℕ) (ps qs : List (List ℕ)) (scans : Option (List Contents))
+    (a b c : ℕ) (h h' h'' : Option (List ℕ))
+    → WritesSome name ps scans a b h h' → WritesSome name qs scans b c h' h'' → WritesSome name
+    (ps ++ qs) scans a c h h''
 WritesSome-append name ps qs scans a b c h h' h'' f g = record {
   text = f.text ++ g.text;
   found = FindsSome-append name ps qs scans a b c f.text g.text f.found g.found;
@@ -106,21 +123,27 @@ WritesSome-append name ps qs scans a b c h h' h'' f g = record {
 }
 
 -- some paths written, a part of the next, and the rest not
-pub WritesPart-next : (name : List ℕ) (ps qs rs : List (List ℕ)) (scans : Option (List Contents)) (a b c : ℕ) (h h' h'' : Option (List ℕ))
-    → WritesSome name ps scans a b h h' → WritesPart name qs scans b c h' h'' → Remains name rs scans c c → WritesPart name (ps ++ (qs ++ rs)) scans a c h h''
+pub WritesPart-next : (name : List ℕ) (ps qs rs : List (List ℕ)) (scans : Option (List Contents))
+    (a b c : ℕ) (h h' h'' : Option (List ℕ))
+    → WritesSome name ps scans a b h h' → WritesPart name qs scans b c h' h''
+    → Remains name rs scans c c → WritesPart name (ps ++ (qs ++ rs)) scans a c h h''
 WritesPart-next name ps qs rs scans a b c h h' h'' f g r = record {
   front = f.text ++ g.front;
   rest = g.rest ++ r.text;
   found =
-      let joined = FindsSome-append name ps (qs ++ rs) scans a b c f.text ((g.front ++ g.rest) ++ r.text) f.found
+      let joined = FindsSome-append name ps (qs ++ rs) scans a b c f.text
+      ((g.front ++ g.rest) ++ r.text) f.found
       (FindsSome-append name qs rs scans b c c (g.front ++ g.rest) r.text g.found r.found) in
-      rw (append_assoc f.text g.front (g.rest ++ r.text), ← append_assoc g.front g.rest r.text) joined;
+      rw (append_assoc f.text g.front (g.rest ++ r.text), ← append_assoc g.front g.rest r.text)
+      joined;
   written = Adds-append h h' h'' f.text g.front f.written g.written;
 }
 
 -- some paths written, and the rest not
-pub WritesPart-rest : (name : List ℕ) (ps rs : List (List ℕ)) (scans : Option (List Contents)) (a b c : ℕ) (h h' : Option (List ℕ))
-    → WritesSome name ps scans a b h h' → Remains name rs scans b c → WritesPart name (ps ++ rs) scans a c h h'
+pub WritesPart-rest : (name : List ℕ) (ps rs : List (List ℕ)) (scans : Option (List Contents))
+    (a b c : ℕ) (h h' : Option (List ℕ))
+    → WritesSome name ps scans a b h h' → Remains name rs scans b c → WritesPart name
+    (ps ++ rs) scans a c h h'
 WritesPart-rest name ps rs scans a b c h h' f r = record {
   front = f.text;
   rest = r.text;
@@ -129,11 +152,14 @@ WritesPart-rest name ps rs scans a b c h h' f r = record {
 }
 
 -- a list around one of its places
-pub around : (ps : List (List ℕ)) (i : ℕ) (d : List ℕ) → i < length ps → take i ps ++ (get_or ps i d ∷ drop (i + 1) ps) ≡ ps
+pub around : (ps : List (List ℕ)) (i : ℕ) (d : List ℕ) → i < length ps
+    → take i ps ++ (get_or ps i d ∷ drop (i + 1) ps) ≡ ps
 around ps i d below = rw add-one (rw (← drop-cons ps i d) (take-append-drop i ps))
 
--- a command stops for a fault of the output, or for want of memory, where it doesn't for one of the tree
-pub by_stop : (P : Type 0) (stop : Stop) → (stop ≡ stops.WriteFault → P) → (stop ≡ stops.NoMemory → P) → (stop ≡ stops.TreeFault → ⊥) → P
+-- a command stops for a fault of the output, or for want of memory, where it doesn't for one of the
+-- tree
+pub by_stop : (P : Type 0) (stop : Stop) → (stop ≡ stops.WriteFault → P) → (stop ≡ stops.NoMemory
+    → P) → (stop ≡ stops.TreeFault → ⊥) → P
 by_stop P stops.TreeFault write memory tree = absurd (tree refl)
 by_stop P stops.WriteFault write memory tree = write refl
 by_stop P stops.NoMemory write memory tree = memory refl
@@ -143,32 +169,41 @@ OnOk-weaker (Ok x) f h = f h
 OnOk-weaker (Err e) f h = tt
 
 -- over all listed paths, the sources are those of the scan
-FindsFrom-listed : (name : List ℕ) (paths : List (List ℕ)) (scans : Option (List Contents)) (a b : ℕ) (text : List ℕ)
-    → IsListed scans paths → All Belongs paths → IsRising paths → FindsSome name paths scans a b text → FindsFrom name scans a b text
+FindsFrom-listed : (name : List ℕ) (paths : List (List ℕ)) (scans : Option (List Contents))
+    (a b : ℕ) (text : List ℕ)
+    → IsListed scans paths → All Belongs paths → IsRising paths → FindsSome name paths scans a b
+    text → FindsFrom name scans a b text
 FindsFrom-listed name paths scans a b text listed belong rising f = record {
   sources = f.sources;
   scanned = IsScanned-read scans paths f.sources a b belong rising listed f.read;
   all = f.all;
 }
 
--- all is written, after a call that left the scans, where the count before is that of an earlier moment
-pub WritesFound-after : (name : List ℕ) (paths : List (List ℕ)) (scans scans' : Option (List Contents)) (a a' b : ℕ) (h h' : Option (List ℕ))
-    → scans' ≡ scans → a' ≡ a → IsListed scans paths → All Belongs paths → IsRising paths → WritesSome name paths scans a b h h' → WritesFound name scans' a' b h h'
-WritesFound-after name paths scans scans' a a' b h h' e f listed belong rising w = rw (e, f) (record {
-  text = w.text;
-  found = FindsFrom-listed name paths scans a b w.text listed belong rising w.found;
-  written = w.written;
-})
+-- all is written, after a call that left the scans, where the count before is that of an earlier
+-- moment
+pub WritesFound-after : (name : List ℕ) (paths : List (List ℕ)) (scans scans' : Option
+    (List Contents)) (a a' b : ℕ) (h h' : Option (List ℕ))
+    → scans' ≡ scans → a' ≡ a → IsListed scans paths → All Belongs paths → IsRising paths
+    → WritesSome name paths scans a b h h' → WritesFound name scans' a' b h h'
+WritesFound-after name paths scans scans' a a' b h h' e f listed belong rising w = rw (e, f)
+    (record {
+      text = w.text;
+      found = FindsFrom-listed name paths scans a b w.text listed belong rising w.found;
+      written = w.written;
+    })
 
 -- the same where a first part is written
-pub WritesFront-after : (name : List ℕ) (paths : List (List ℕ)) (scans scans' : Option (List Contents)) (a a' b : ℕ) (h h' : Option (List ℕ))
-    → scans' ≡ scans → a' ≡ a → IsListed scans paths → All Belongs paths → IsRising paths → WritesPart name paths scans a b h h' → WritesFront name scans' a' b h h'
-WritesFront-after name paths scans scans' a a' b h h' e f listed belong rising w = rw (e, f) (record {
-  front = w.front;
-  rest = w.rest;
-  found = FindsFrom-listed name paths scans a b (w.front ++ w.rest) listed belong rising w.found;
-  written = w.written;
-})
+pub WritesFront-after : (name : List ℕ) (paths : List (List ℕ)) (scans scans' : Option
+    (List Contents)) (a a' b : ℕ) (h h' : Option (List ℕ))
+    → scans' ≡ scans → a' ≡ a → IsListed scans paths → All Belongs paths → IsRising paths
+    → WritesPart name paths scans a b h h' → WritesFront name scans' a' b h h'
+WritesFront-after name paths scans scans' a a' b h h' e f listed belong rising w = rw (e, f)
+    (record {
+      front = w.front;
+      rest = w.rest;
+      found = FindsFrom-listed name paths scans a b (w.front ++ w.rest) listed belong rising w.found;
+      written = w.written;
+    })
 
 -- what holds of every error holds of this one
 pub OnErr-part : {T E P : Type 0} (r : Result T E) (e : E) → r ≡ Err e → OnErr r P → P

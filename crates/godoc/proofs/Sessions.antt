@@ -16,18 +16,23 @@ use Rattle.godoc.specs.Replies.{reply_of}
 use Rattle.godoc.specs.Serving.{Serves}
 
 -- what a session wrote stays the same text when the history is longer than what the session saw
-IsAnswered-grown : {E : Type 0} (reply : Replier E) (history more : List E) (requests : List Request) (end : StreamEnd) (entries written : List ℕ) (result : SessionEnd)
-    → All (λ entry. IsSome (edition_at history entry)) entries → IsAnswered reply history requests end entries written result
+IsAnswered-grown : {E : Type 0} (reply : Replier E) (history more : List E)
+    (requests : List Request) (end : StreamEnd) (entries written : List ℕ) (result : SessionEnd)
+    → All (λ entry. IsSome (edition_at history entry)) entries → IsAnswered reply history requests
+    end entries written result
     → IsAnswered reply (history ++ more) requests end entries written result
 IsAnswered-grown reply history more requests end entries written result known a =
     let same = sym (replies-grown reply history more 1 (answerable requests) entries known) in
     record {
       within = a.within;
       each = a.each;
-      text = λ whole. a.text whole ∙ ap (λ texts. concat texts ++ refusal requests end (length entries)) same;
+      text = λ whole. a.text whole ∙ ap (λ texts. concat texts ++ refusal requests end
+          (length entries)) same;
       exact = a.exact;
-      begun = λ e. subst (λ (texts : List (List ℕ)). StartsWith (concat texts ++ refusal requests end (length entries)) written) same (a.begun e);
-      whole_replies = λ e. subst (λ (texts : List (List ℕ)). StartsWith written (concat (take (length entries - 1) texts))) same (a.whole_replies e);
+      begun = λ e. subst (λ (texts : List (List ℕ)). StartsWith
+          (concat texts ++ refusal requests end (length entries)) written) same (a.begun e);
+      whole_replies = λ e. subst (λ (texts : List (List ℕ)). StartsWith written
+          (concat (take (length entries - 1) texts))) same (a.whole_replies e);
       starved = λ e. ⊎_elim
           (λ h. inl (h ∙ ap (λ texts. concat (take (length entries) texts)) same))
           (λ h. inr (h ∙ ap (λ texts. concat (take (length entries - 1) texts)) same))
@@ -35,12 +40,14 @@ IsAnswered-grown reply history more requests end entries written result known a 
     }
 
 -- the one edition has the number 1
-number_is : {E : Type 0} (edition : E) (entry : ℕ) → IsSome (edition_at (edition ∷ []) entry) → entry ≡ 1
+number_is : {E : Type 0} (edition : E) (entry : ℕ) → IsSome (edition_at (edition ∷ []) entry)
+    → entry ≡ 1
 number_is edition zero known = absurd (false≢true known)
 number_is edition (suc zero) known = refl
 number_is edition (suc (suc place)) known = absurd (false≢true known)
 
-entries_are : {E : Type 0} (edition : E) (entries : List ℕ) → All (λ entry. IsSome (edition_at (edition ∷ []) entry)) entries
+entries_are : {E : Type 0} (edition : E) (entries : List ℕ)
+    → All (λ entry. IsSome (edition_at (edition ∷ []) entry)) entries
     → entries ≡ replicate (length entries) 1
 entries_are edition [] known = refl
 entries_are edition (entry ∷ entries) known =
@@ -50,8 +57,10 @@ entries_are edition (entry ∷ entries) known =
     ap (λ n. n ∷ entries) first ∙ ap (λ ns. 1 ∷ ns) rest
 
 -- a session of a reader that saw so much of the history
-serves_by : (paths : List (List ℕ)) (left left_after held held_after : Option (List ℕ)) (old new : View (List (List ℕ))) (result : SessionEnd) (more : List (List (List ℕ)))
-    → (s : Session reply_of left left_after held held_after old new result) → new.seen ++ more ≡ paths ∷ [] → s.entries ≡ replicate (length s.entries) 1
+serves_by : (paths : List (List ℕ)) (left left_after held held_after : Option (List ℕ))
+    (old new : View (List (List ℕ))) (result : SessionEnd) (more : List (List (List ℕ)))
+    → (s : Session reply_of left left_after held held_after old new result) → new.seen ++ more
+    ≡ paths ∷ [] → s.entries ≡ replicate (length s.entries) 1
     → Serves paths left left_after held held_after result
 serves_by paths left left_after held held_after old new result more s whole ones = record {
   read = s.read;
@@ -62,24 +71,39 @@ serves_by paths left left_after held held_after old new result more s whole ones
   adds = s.adds;
   end_is = s.end_is;
   answers = λ requests end all.
-      subst (λ (entries : List ℕ). IsAnswered reply_of (paths ∷ []) requests end entries s.written result) ones
-      (subst (λ (history : List (List (List ℕ))). IsAnswered reply_of history requests end s.entries s.written result) whole
-      (IsAnswered-grown reply_of new.seen more requests end s.entries s.written result s.known (s.answers requests end all)));
+      subst (λ (entries : List ℕ). IsAnswered reply_of (paths ∷ []) requests end entries s.written
+      result) ones
+      (subst (λ (history : List (List (List ℕ))). IsAnswered reply_of history requests end s.entries
+      s.written result) whole
+      (IsAnswered-grown reply_of new.seen more requests end s.entries s.written result s.known
+      (s.answers requests end all)));
 }
 
 -- a session of a reader that has seen nothing beyond this one edition
-pub Serves-session : (paths : List (List ℕ)) (left left_after held held_after : Option (List ℕ)) (old new : View (List (List ℕ))) (result : SessionEnd)
-    → Session reply_of left left_after held held_after old new result → StartsWith (paths ∷ []) new.seen
+pub Serves-session : (paths : List (List ℕ)) (left left_after held held_after : Option (List ℕ))
+    (old new : View (List (List ℕ))) (result : SessionEnd)
+    → Session reply_of left left_after held held_after old new result → StartsWith
+    (paths ∷ []) new.seen
     → Serves paths left left_after held held_after result
 Serves-session paths left left_after held held_after old new result s begins =
     let known : All (λ entry. IsSome (edition_at (paths ∷ []) entry)) s.entries =
-    All-weaker (λ entry. IsSome (edition_at new.seen entry)) (λ entry. IsSome (edition_at (paths ∷ []) entry))
-    (λ entry some. subst (λ (w : Option (List (List ℕ))). IsSome w) (sym (ap (λ (w : List (List (List ℕ))). edition_at w entry) begins.1 ∙ edition_at-grown new.seen begins.0 entry some)) some)
+    All-weaker (λ entry. IsSome (edition_at new.seen entry))
+    (λ entry. IsSome (edition_at (paths ∷ []) entry))
+    (λ entry some. subst (λ (w : Option (List (List ℕ))). IsSome w)
+    (sym (ap (λ (w : List (List (List ℕ))). edition_at w entry) begins.1
+    ∙ edition_at-grown new.seen begins.0 entry some)) some)
     s.entries s.known in
-    serves_by paths left left_after held held_after old new result begins.0 s (sym begins.1) (entries_are paths s.entries known)
+    serves_by paths left left_after held held_after old new result begins.0 s (sym begins.1)
+    (entries_are paths s.entries known)
 
 -- a session that was not begun for want of memory
-pub Serves-unbegun : (paths : List (List ℕ)) (left held : Option (List ℕ)) → Serves paths left left held held ends.NoMemory
+pub Serves-unbegun : (paths : List (List ℕ)) (left held : Option (List ℕ))
+    → Serves paths left left held held ends.NoMemory
 Serves-unbegun paths left held =
-    let view : View (List (List ℕ)) = newcomer (record { book = record { number = 0; log_name = 0; cells_name = 0 }; editions = paths ∷ [] }) in
-    Serves-session paths left left held held view view ends.NoMemory (Session-unbegun reply_of left held view) (paths ∷ [], refl)
+    let view : View (List (List ℕ)) = newcomer
+    (record {
+      book = record { number = 0; log_name = 0; cells_name = 0 };
+      editions = paths ∷ [];
+    }) in
+    Serves-session paths left left held held view view ends.NoMemory
+    (Session-unbegun reply_of left held view) (paths ∷ [], refl)

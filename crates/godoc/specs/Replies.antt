@@ -1,6 +1,6 @@
 -- Cited by public clauses: the reply to a request of an edition. Which page answers a target is the
--- project's own; that HEAD has the head of GET is RFC 9110, section 9.3.2, and a reply to a method that
--- isn't allowed is section 15.5.6.
+-- project's own; that HEAD has the head of GET is RFC 9110, section 9.3.2, and a reply to a method
+-- that isn't allowed is section 15.5.6.
 use Rattle.std.specs.Prelude.{ℕ, Bool, List, [], ◌++◌, length, codes}
 use Rattle.http_wire.specs.declared.request.Request.{Request}
 use Rattle.http_wire.specs.declared.request.Verb.{Verb}
@@ -38,7 +38,8 @@ abbrev pub reply_with : Code → List ℕ → ℕ → Verb → Bool → List ℕ
 reply_with code page number verb last =
     reply_head_of code (length page) number last ++ content_by verb page
 
--- the reply of the edition with this number and these package paths to a request; whether it is the last one
+-- the reply of the edition with this number and these package paths to a request; whether it is the
+-- last one
 unfoldable pub reply_of : ℕ → List (List ℕ) → Request → Bool → List ℕ
 reply_of number paths request last =
     let target = target_of request in

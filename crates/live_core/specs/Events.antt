@@ -35,8 +35,8 @@ abbrev pub sources_of : Option Scan → List ℕ
 sources_of None = []
 sources_of (Some scan) = scan.sources ∷ []
 
--- what the editions that are published are made of, in their order: the opening's sources, then those of
--- each scan that was published
+-- what the editions that are published are made of, in their order: the opening's sources, then
+-- those of each scan that was published
 abbrev pub published : ℕ → List Event → List ℕ
 published opening [] = opening ∷ []
 published opening (events.Publish ∷ past) = published opening past ++ sources_of (under_way past)
@@ -62,7 +62,9 @@ are_all_among done (suc pieces) = is_among done pieces && are_all_among done pie
 abbrev pub piece_answer : Option Scan → List ℕ → ℕ → Answer
 piece_answer None done index = Illegal NoScan
 piece_answer (Some scan) done index =
-    if nat_lt index scan.pieces then (if is_among done index then Illegal PieceTwice else Done) else Illegal UnknownPiece
+    if nat_lt index scan.pieces
+    then (if is_among done index then Illegal PieceTwice else Done)
+    else Illegal UnknownPiece
 
 -- the answer to a publication, by the scan under way, its finished pieces and the editions so far
 abbrev pub publish_answer : Option Scan → List ℕ → ℕ → Answer
@@ -72,9 +74,12 @@ publish_answer (Some scan) done editions =
 
 -- the answer to an event, by the sources of the opening and the event's past
 abbrev pub answer_of : ℕ → List Event → Event → Answer
-answer_of opening past (events.Scan sources pieces) = if is_some (under_way past) then Illegal ScanUnderWay else Done
-answer_of opening past (events.Piece worker index) = piece_answer (under_way past) (finished past) index
-answer_of opening past events.Publish = publish_answer (under_way past) (finished past) (length (published opening past))
+answer_of opening past (events.Scan sources pieces) =
+    if is_some (under_way past) then Illegal ScanUnderWay else Done
+answer_of opening past (events.Piece worker index) =
+    piece_answer (under_way past) (finished past) index
+answer_of opening past events.Publish =
+    publish_answer (under_way past) (finished past) (length (published opening past))
 answer_of opening past (events.Enter connection request) =
     Served (length (published opening past)) (last_of opening (published opening past)) request
 
@@ -92,7 +97,8 @@ is_served (Published edition) = false
 
 -- the past of the next event: an illegal event leaves no trace
 abbrev pub past_after : ℕ → List Event → Event → List Event
-past_after opening past event = if is_legal (answer_of opening past event) then event ∷ past else past
+past_after opening past event =
+    if is_legal (answer_of opening past event) then event ∷ past else past
 
 -- the answers to events, one for each
 abbrev pub answers_from : ℕ → List Event → List Event → List Answer
@@ -106,7 +112,8 @@ core_answers opening all = answers_from opening [] all
 
 -- the edition that an answer to this event serves to a connection
 abbrev pub edition_to : ℕ → Event × Answer → Option ℕ
-edition_to connection (events.Enter who request, Served edition sources asked) = if who == connection then Some edition else None
+edition_to connection (events.Enter who request, Served edition sources asked) =
+    if who == connection then Some edition else None
 edition_to connection _ = None
 
 -- the editions that a list of events served to a connection, in their order

@@ -8,7 +8,8 @@ pub record DraftState : Type 0 where
   pub sources : ℕ
   pub finished : List Bool
 
--- a core: how many editions are published, the sources of the newest, and the edition that is being made
+-- a core: how many editions are published, the sources of the newest, and the edition that is being
+-- made
 pub record CoreState : Type 0 where
   pub editions : ℕ
   pub newest : ℕ
@@ -18,7 +19,8 @@ pub record CoreState : Type 0 where
 pub record IsDraftOf (scan : Scan) (done : List ℕ) (draft : DraftState) : Type 0 where
   pub sources : draft.sources ≡ scan.sources
   pub pieces : length draft.finished ≡ scan.pieces
-  pub finished : (index : ℕ) → index < scan.pieces → slice_get draft.finished index ≡ Some (is_among done index)
+  pub finished : (index : ℕ) → index < scan.pieces
+      → slice_get draft.finished index ≡ Some (is_among done index)
 
 -- there is a draft exactly where a scan is under way
 abbrev pub AreDraftOf : Option Scan → List ℕ → Option DraftState → Type 0

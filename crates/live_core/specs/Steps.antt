@@ -15,8 +15,11 @@ abbrev pub missing_of : List Bool → ℕ
 missing_of flags = sum_by lack flags
 
 -- the core gave this answer to an event, and is another one now
-pub record Follows (old : CoreState) (event : Event) (given : Answer) (new : CoreState) : Type 0 where
-  pub answer : (opening : ℕ) (past : List Event) → IsAfter opening past old → given ≡ answer_of opening past event
-  pub after : (opening : ℕ) (past : List Event) → IsAfter opening past old → IsAfter opening (past_after opening past event) new
-  pub illegal : is_legal given ≡ false → new ≡ old
-  pub editions : new.editions ≤ old.editions + 1
+pub record Follows (old : CoreState) (event : Event) (given : Answer) (new : CoreState) : Type 0
+  where
+    pub answer : (opening : ℕ) (past : List Event) → IsAfter opening past old
+        → given ≡ answer_of opening past event
+    pub after : (opening : ℕ) (past : List Event) → IsAfter opening past old
+        → IsAfter opening (past_after opening past event) new
+    pub illegal : is_legal given ≡ false → new ≡ old
+    pub editions : new.editions ≤ old.editions + 1

@@ -9,8 +9,8 @@ use plain_data::Mem;
 use std::alloc::Global;
 use std::marker::Model;
 
-/// An edition that is being made, seen by contracts as its sources, and for each piece whether it is
-/// finished.
+/// An edition that is being made, seen by contracts as its sources, and for each piece whether it
+/// is finished.
 #[derive(Drop)]
 pub(crate) struct Draft {
     sources: u64,
@@ -37,7 +37,10 @@ impl Draft {
     ///
     /// `NoMemory` where there is no room for a mark for each piece.
     pub fn new(alloc: Global, sources: u64, pieces: u64) -> Mem<Draft>
-        ensures { IfOk result (λ draft. draft ≡ record { sources = sources; finished = replicate pieces false }) }
+        ensures { IfOk result (λ draft. draft ≡ record {
+          sources = sources;
+          finished = replicate pieces false;
+        }) }
     {
         Ok(Draft {
             sources,
@@ -57,14 +60,16 @@ impl Draft {
     ///
     /// # Errors
     ///
-    /// `UnknownPiece` where the edition has no such piece, and `PieceTwice` where it is finished already.
-    /// The draft is then as it was.
+    /// `UnknownPiece` where the edition has no such piece, and `PieceTwice` where it is finished
+    /// already. The draft is then as it was.
     pub fn finish(&mut self, index: u64) -> Result<(), NotLegal>
         ensures { MatchOption (slice_get self.old.finished index)
             ((result ≡ Err NotLegal.UnknownPiece) × (self.new ≡ self.old))
             (λ finished. MatchBool finished
             ((result ≡ Err NotLegal.PieceTwice) × (self.new ≡ self.old))
-            ((result ≡ Ok tt) × (self.new ≡ record self.old { finished = slice_set self.old.finished index true }))) }
+            ((result ≡ Ok tt) × (self.new ≡ record self.old {
+              finished = slice_set self.old.finished index true;
+            }))) }
     {
         match self.finished.get(index as usize) {
             None => return Err(NotLegal::UnknownPiece),

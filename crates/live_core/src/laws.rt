@@ -13,8 +13,9 @@ pub fn connections_never_go_back()
         → IsNonDecreasing (editions_to connection events (core_answers opening events)) }
 {}
 
-/// The entries of a reader are those of a run of the core in which each edition's pieces were finished
-/// before it was published: on every trail no event is illegal, and each entry is served its own edition.
+/// The entries of a reader are those of a run of the core in which each edition's pieces were
+/// finished before it was published: on every trail no event is illegal, and each entry is served
+/// its own edition.
 pub fn trails_are_legal()
     ensures legal { (pieces entries : List ℕ) → AreEntries pieces entries
         → AllPass is_legal (core_answers 1 (trail_of pieces entries)) }

@@ -1,7 +1,8 @@
-//! The core of a server whose editions are published beside its readers: a machine that answers events.
+//! The core of a server whose editions are published beside its readers: a machine that answers
+//! events.
 //!
-//! An edition is made in pieces, in any order and by any worker, and is published when its last piece is
-//! finished. Whoever enters is served the newest edition that is published.
+//! An edition is made in pieces, in any order and by any worker, and is published when its last
+//! piece is finished. Whoever enters is served the newest edition that is published.
 #![tactic(auto)]
 
 mod draft;

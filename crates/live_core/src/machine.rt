@@ -13,8 +13,8 @@ use plain_data::{Mem, Seq};
 use std::alloc::Global;
 use std::marker::Model;
 
-/// A core, seen by contracts as the number of its editions, the sources of the newest, and the edition
-/// that is being made.
+/// A core, seen by contracts as the number of its editions, the sources of the newest, and the
+/// edition that is being made.
 #[derive(Drop)]
 pub struct Core {
     alloc: Global,
@@ -28,7 +28,11 @@ impl Model for Core {
 
     ghost Value = { CoreState };
 
-    ghost view = { λ core. record { editions = core.editions; newest = core.newest; draft = core.draft } };
+    ghost view = { λ core. record {
+      editions = core.editions;
+      newest = core.newest;
+      draft = core.draft;
+    } };
 }
 
 impl Core {
@@ -48,14 +52,16 @@ impl Core {
         })
     }
 
-    /// Takes an event, and answers it by what happened before: which editions are published, which scan is
-    /// under way, and which of its pieces are finished. An event that may not happen changes nothing.
+    /// Takes an event, and answers it by what happened before: which editions are published, which
+    /// scan is under way, and which of its pieces are finished. An event that may not happen
+    /// changes nothing.
     ///
     /// A core that took fewer than 2 ^ 64 - 2 events has room for one more edition.
     ///
     /// # Errors
     ///
-    /// `NoMemory` where there is no room for a mark for each piece of a scan. The core is then as it was.
+    /// `NoMemory` where there is no room for a mark for each piece of a scan. The core is then as
+    /// it was.
     pub fn step(&mut self, event: &Event) -> Mem<Answer>
         requires { self.old.editions + 1 < 2 ^ 64 }
         ensures answer { (opening : ℕ) (past : List Event) → IsAfter opening past self.old
@@ -75,7 +81,8 @@ impl Core {
     }
 
     fn scan(&mut self, sources: u64, pieces: u64) -> Mem<Answer>
-        ensures ok { IfOk result (λ answer. Follows self.old (events.Scan sources pieces) answer self.new) }
+        ensures ok { IfOk result (λ answer.
+            Follows self.old (events.Scan sources pieces) answer self.new) }
         ensures err { OnErr result (self.new ≡ self.old) }
     {
         if self.draft.is_some() {
@@ -112,7 +119,8 @@ impl Core {
     }
 
     fn enter(&self, request: u64) -> Answer
-        ensures { (connection : ℕ) → Follows self.now (events.Enter connection request) result self.now }
+        ensures { (connection : ℕ)
+            → Follows self.now (events.Enter connection request) result self.now }
     {
         Answer::Served {
             edition: self.editions,

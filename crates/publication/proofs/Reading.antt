@@ -1,6 +1,5 @@
 -- What a reader has seen and was told, in editions.
-use Rattle.std.proofs.Common.{◌≡◌, ℕ, ◌-◌, ◌≤◌, ◌⊎◌, true, List, [], ◌∷◌, ◌++◌, length, All, refl, sym, ap, ◌∙◌, subst, inl, inr, ⊎_elim, le_refl, le_trans, length-append, arith, Option, Some, None, Result, Ok, Err, IfOk, OnOk, OnErr}
-use Rattle.std.proofs.lemmas.Bool.{cases_lt}
+use Rattle.std.proofs.Common.{◌≡◌, ℕ, ◌-◌, ◌≤◌, ◌⊎◌, true, List, [], ◌∷◌, ◌++◌, length, All, refl, sym, ap, ◌∙◌, subst, inl, inr, ⊎_elim, le_refl, le_trans, arith, Option, Some, None, Result, Ok, Err, IfOk, OnOk, OnErr}
 use Rattle.std.proofs.lemmas.List.{append-nil}
 use Rattle.std.proofs.lemmas.List.Elements.{All-append, All-cons, All-nil}
 use Rattle.std.proofs.lemmas.List.Sorted.{IsNonDecreasingBy-push}
@@ -20,14 +19,19 @@ abbrev Token : Type 0 → Type 0
 Token E = Seen (Option E) ℕ Chronicle
 
 -- entries that never fall, and are at most this, go on with more than that
-rises : (entries : List ℕ) (most more : ℕ) → most ≤ more → IsNonDecreasing entries → All (λ number. (1 ≤ number) × (number ≤ most)) entries → IsNonDecreasing (entries ++ more ∷ [])
-rises entries most more le rising below = IsNonDecreasingBy-push (λ x. x) entries more rising (λ d some. le_trans (below (length entries - 1) d (omega arith)).1 le)
+rises : (entries : List ℕ) (most more : ℕ) → most ≤ more → IsNonDecreasing entries
+    → All (λ number. (1 ≤ number) × (number ≤ most)) entries → IsNonDecreasing
+    (entries ++ more ∷ [])
+rises entries most more le rising below = IsNonDecreasingBy-push (λ x. x) entries more rising
+    (λ d some. le_trans (below (length entries - 1) d (omega arith)).1 le)
 
-all_more : (entries : List ℕ) (most more : ℕ) → most ≤ more → All (λ number. (1 ≤ number) × (number ≤ most)) entries → All (λ number. (1 ≤ number) × (number ≤ more)) entries
+all_more : (entries : List ℕ) (most more : ℕ) → most ≤ more → All (λ number. (1 ≤ number)
+    × (number ≤ most)) entries → All (λ number. (1 ≤ number) × (number ≤ more)) entries
 all_more entries most more le below i d lt = let b = below i d lt in (b.0, le_trans b.1 le)
 
 module _ {E : Type 0} where
-  pub editions_append : (front rest : List (Option E)) → editions_of (front ++ rest) ≡ editions_of front ++ editions_of rest
+  pub editions_append : (front rest : List (Option E)) → editions_of (front ++ rest) ≡ editions_of
+      front ++ editions_of rest
   editions_append [] rest = refl
   editions_append (Some edition ∷ front) rest = ap (λ l. edition ∷ l) (editions_append front rest)
   editions_append (None ∷ front) rest = editions_append front rest
@@ -37,38 +41,56 @@ module _ {E : Type 0} where
   editions_length (Some edition ∷ log) o = omega (arith, editions_length log o)
   editions_length (None ∷ log) o = absurd o
 
-  pub editions_start : (log front : List (Option E)) → StartsWith log front → StartsWith (editions_of log) (editions_of front)
+  pub editions_start : (log front : List (Option E)) → StartsWith log front → StartsWith
+      (editions_of log) (editions_of front)
   editions_start log front s = (editions_of s.0, ap editions_of s.1 ∙ editions_append front s.0)
 
-  pub editions_same : (log same : List (Option E)) → log ≡ same → StartsWith (editions_of log) (editions_of same)
+  pub editions_same : (log same : List (Option E)) → log ≡ same → StartsWith (editions_of log)
+      (editions_of same)
   editions_same log same e = ([], ap editions_of e ∙ sym (append-nil (editions_of same)))
 
-  pub editions_begin : (front log : List (Option E)) → IsPrefix front log → StartsWith (editions_of log) (editions_of front)
+  pub editions_begin : (front log : List (Option E)) → IsPrefix front log → StartsWith
+      (editions_of log) (editions_of front)
   editions_begin front log p = editions_start log front (p.0, sym p.1)
 
-  pub editions_end : (log : List (Option E)) (edition : E) → EndsWith log (Some edition) → EndsWith (editions_of log) edition
-  editions_end log edition e = (editions_of e.0, ap editions_of e.1 ∙ editions_append e.0 (Some edition ∷ []))
+  pub editions_end : (log : List (Option E)) (edition : E) → EndsWith log (Some edition)
+      → EndsWith (editions_of log) edition
+  editions_end log edition e = (
+    editions_of e.0,
+    ap editions_of e.1 ∙ editions_append e.0
+        (Some edition ∷ []),
+  )
 
   -- what was seen begins with the opening, once it is something
-  begun : (seen origin all : List (Option E)) → length origin ≡ 1 → IsPrefix seen all → IsPrefix origin all → (editions_of seen ≡ []) ⊎ StartsWith (editions_of seen) (editions_of origin)
+  begun : (seen origin all : List (Option E)) → length origin ≡ 1 → IsPrefix seen all
+      → IsPrefix origin all → (editions_of seen ≡ []) ⊎ StartsWith (editions_of seen)
+      (editions_of origin)
   begun [] origin all one p q = inl refl
-  begun (entry ∷ seen) origin all one p q = inr (editions_start (entry ∷ seen) origin (shorter origin (entry ∷ seen) all q p (omega (arith, one))))
+  begun (entry ∷ seen) origin all one p q = inr (editions_start (entry ∷ seen) origin
+      (shorter origin (entry ∷ seen) all q p (omega (arith, one))))
 
-  pub view_holds : (sight : Sight E) (seen : Token E) (count : ℕ) (known : Knowledge E) → IsReader sight seen count known → IsView (view_by sight seen known)
+  pub view_holds : (sight : Sight E) (seen : Token E) (count : ℕ) (known : Knowledge E)
+      → IsReader sight seen count known → IsView (view_by sight seen known)
   view_holds sight seen count known r =
-      let origin : IsPrefix known.origin.log known.all.log = prefix_then known.origin.log known.told.log known.all.log (r.told.informed.0, sym r.told.informed.1) r.told.begins in record {
+      let origin : IsPrefix known.origin.log known.all.log = prefix_then known.origin.log
+      known.told.log known.all.log (r.told.informed.0, sym r.told.informed.1) r.told.begins in
+      record {
         history = editions_of known.all.log;
         seen_begins = editions_begin seen.log known.all.log r.begins;
         told_begins = editions_begin known.told.log known.all.log r.told.begins;
         informed = editions_start known.told.log known.origin.log r.told.informed;
         begins = begun seen.log known.origin.log known.all.log r.told.one r.begins origin;
         rising = r.rising;
-        known = λ i d lt. let k = r.entered i d lt in (k.0, omega (arith, k.1, editions_length seen.log r.unclosed));
-        within = λ closed. editions_begin seen.log known.told.log (within_closed known.told.log known.all.log seen.log (r.told.last closed) r.unclosed r.begins);
+        known = λ i d lt. let k = r.entered i d lt in
+            (k.0, omega (arith, k.1, editions_length seen.log r.unclosed));
+        within = λ closed. editions_begin seen.log known.told.log
+            (within_closed known.told.log known.all.log seen.log (r.told.last closed) r.unclosed
+            r.begins);
       }
 
   -- what is known after a step
-  pub told_more : (before after : Sight E) (known : Knowledge E) (all : Token E) → IsTold known → SeesMore before after known.all all → IsTold (record known { all = all })
+  pub told_more : (before after : Sight E) (known : Knowledge E) (all : Token E) → IsTold known
+      → SeesMore before after known.all all → IsTold (record known { all = all })
   told_more before after known all t s = record {
     told_book = t.told_book;
     all_book = s.all_book ∙ t.all_book;
@@ -78,10 +100,13 @@ module _ {E : Type 0} where
     informed = t.informed;
     unclosed = t.unclosed;
     begins = prefix_then known.told.log known.all.log all.log t.begins s.kept;
-    last = λ closed. closed_all known.told.log all.log t.unclosed s.settled (subst (λ (l : List (Option E)). IsPrefix l all.log) (t.last closed) s.kept);
+    last = λ closed. closed_all known.told.log all.log t.unclosed s.settled
+        (subst (λ (l : List (Option E)). IsPrefix l all.log) (t.last closed) s.kept);
   }
 
-  pub sees_then : (before mid after : Sight E) (known some all : Token E) → SeesMore before mid known some → SeesMore mid after some all → SeesMore before after known all
+  pub sees_then : (before mid after : Sight E) (known some all : Token E)
+      → SeesMore before mid known some → SeesMore mid after some all → SeesMore before after known
+      all
   sees_then before mid after known some all s t = record {
     later = starts_then before.seen.log mid.seen.log after.seen.log s.later t.later;
     opened = t.opened;
@@ -94,27 +119,51 @@ module _ {E : Type 0} where
     settled = t.settled;
   }
 
-  pub sees_from : (before mid after : Sight E) (known some all : Token E) → Glimpses before mid known some → SeesMore mid after some all → SeesMore before after known all
+  pub sees_from : (before mid after : Sight E) (known some all : Token E)
+      → Glimpses before mid known some → SeesMore mid after some all → SeesMore before after known
+      all
   sees_from before mid after known some all g t =
-      ⊎_elim (λ (s : SeesNothing before mid known some). subst (λ (z : Token E). SeesMore before after z all) s.1 (subst (λ (z : Sight E). SeesMore z after some all) s.0 t))
+      ⊎_elim (λ (s : SeesNothing before mid known some). subst (λ (z : Token E). SeesMore before
+      after z all) s.1 (subst (λ (z : Sight E). SeesMore z after some all) s.0 t))
       (λ (s : SeesMore before mid known some). sees_then before mid after known some all s t) g.sees
 
-  pub glimpses_from : (before mid after : Sight E) (known some all : Token E) → Glimpses before mid known some → SeesNothing mid after some all → Glimpses before after known all
+  pub glimpses_from : (before mid after : Sight E) (known some all : Token E)
+      → Glimpses before mid known some → SeesNothing mid after some all
+      → Glimpses before after known all
   glimpses_from before mid after known some all g n =
-      subst (λ (z : Token E). Glimpses before after known z) (sym n.1) (subst (λ (z : Sight E). Glimpses before z known some) (sym n.0) g)
+      subst (λ (z : Token E). Glimpses before after known z) (sym n.1)
+      (subst (λ (z : Sight E). Glimpses before z known some) (sym n.0) g)
 
   -- a reader sees no less than it had seen
-  pub seen_later : (before after : Sight E) (seen : Token E) (count : ℕ) (known : Knowledge E) (all : Token E) → IsReader before seen count known → SeesMore before after known.all all → StartsWith after.seen.log seen.log
-  seen_later before after seen count known all r s = starts_then seen.log before.seen.log after.seen.log r.within s.later
+  pub seen_later : (before after : Sight E) (seen : Token E) (count : ℕ) (known : Knowledge E)
+      (all : Token E) → IsReader before seen count known → SeesMore before after known.all all
+      → StartsWith after.seen.log seen.log
+  seen_later before after seen count known all r s = starts_then seen.log before.seen.log
+      after.seen.log r.within s.later
 
-  longer : (before after : Sight E) (seen : Token E) (count : ℕ) (known : Knowledge E) (all : Token E) → IsReader before seen count known → SeesMore before after known.all all → length seen.log ≤ length after.seen.log
-  longer before after seen count known all r s = let l = seen_later before after seen count known all r s in prefix_length seen.log after.seen.log (l.0, sym l.1)
+  longer : (before after : Sight E) (seen : Token E) (count : ℕ) (known : Knowledge E)
+      (all : Token E) → IsReader before seen count known → SeesMore before after known.all all
+      → length seen.log ≤ length after.seen.log
+  longer before after seen count known all r s = let l = seen_later before after seen count known
+      all r s in prefix_length seen.log after.seen.log (l.0, sym l.1)
 
-  pub late_enough : (before : Sight E) (seen : Token E) (count : ℕ) (known : Knowledge E) → IsReader before seen count known → known.number ≤ count → known.number ≤ length before.seen.log
-  late_enough before seen count known r le = omega (arith, le, r.counted, prefix_length seen.log before.seen.log (r.within.0, sym r.within.1))
+  pub late_enough : (before : Sight E) (seen : Token E) (count : ℕ) (known : Knowledge E)
+      → IsReader before seen count known → known.number ≤ count → known.number
+      ≤ length before.seen.log
+  late_enough before seen count known r le = omega (
+    arith,
+    le,
+    r.counted,
+    prefix_length seen.log
+        before.seen.log (r.within.0, sym r.within.1),
+  )
 
-  module _ (before after : Sight E) (seen : Token E) (count : ℕ) (known : Knowledge E) (all noted : Token E) (number : ℕ) (r : IsReader before seen count known) (s : SeesMore before after known.all all) (n : IsNoted after noted number) where
-    stands : IsNonDecreasing after.entries → All (λ entry. (1 ≤ entry) × (entry ≤ length after.seen.log)) after.entries → IsReader after noted number (record known { all = all })
+  module _ (before after : Sight E) (seen : Token E) (count : ℕ) (known : Knowledge E)
+      (all noted : Token E) (number : ℕ) (r : IsReader before seen count known)
+      (s : SeesMore before after known.all all) (n : IsNoted after noted number) where
+    stands : IsNonDecreasing after.entries → All (λ entry. (1 ≤ entry)
+        × (entry ≤ length after.seen.log)) after.entries → IsReader after noted number
+        (record known { all = all })
     stands rising below = record {
       told = told_more before after known all r.told s;
       opened = s.opened;
@@ -124,50 +173,78 @@ module _ {E : Type 0} where
       begins = subst (λ (l : List (Option E)). IsPrefix l all.log) (sym n.is) s.begins;
       within = ([], sym n.is ∙ sym (append-nil noted.log));
       rising = rising;
-      entered = subst (λ (l : List (Option E)). All (λ entry. (1 ≤ entry) × (entry ≤ length l)) after.entries) (sym n.is) below;
+      entered = subst (λ (l : List (Option E)). All (λ entry. (1 ≤ entry) × (entry ≤ length l))
+          after.entries) (sym n.is) below;
     }
 
-    pub looked : after.entries ≡ before.entries → IsReader after noted number (record known { all = all })
+    pub looked : after.entries ≡ before.entries → IsReader after noted number
+        (record known { all = all })
     looked same = stands (subst IsNonDecreasing (sym same) r.rising)
-        (subst (All (λ entry. (1 ≤ entry) × (entry ≤ length after.seen.log))) (sym same) (all_more before.entries (length seen.log) (length after.seen.log) (longer before after seen count known all r s) r.entered))
+        (subst (All (λ entry. (1 ≤ entry) × (entry ≤ length after.seen.log))) (sym same)
+        (all_more before.entries (length seen.log) (length after.seen.log)
+        (longer before after seen count known all r s) r.entered))
 
     pub entered : Notes before after → IsReader after noted number (record known { all = all })
     entered notes =
         let P : ℕ → Type 0 = λ entry. (1 ≤ entry) × (entry ≤ length after.seen.log) in
         let le = longer before after seen count known all r s in
-        stands (subst IsNonDecreasing (sym notes) (rises before.entries (length seen.log) (length after.seen.log) le r.rising r.entered))
-        (subst (All P) (sym notes) (All-append P before.entries (length after.seen.log ∷ []) (all_more before.entries (length seen.log) (length after.seen.log) le r.entered) (All-cons P (length after.seen.log) [] (s.some, le_refl (length after.seen.log)) (All-nil P))))
+        stands (subst IsNonDecreasing (sym notes) (rises before.entries (length seen.log)
+        (length after.seen.log) le r.rising r.entered))
+        (subst (All P) (sym notes) (All-append P before.entries (length after.seen.log ∷ [])
+        (all_more before.entries (length seen.log) (length after.seen.log) le r.entered)
+        (All-cons P (length after.seen.log) [] (s.some, le_refl (length after.seen.log))
+        (All-nil P))))
 
     -- what was told is seen, and nothing else where it is closed
-    pub informed : known.number ≤ length after.seen.log → StartsWith (editions_of noted.log) (editions_of known.told.log)
-    informed late = editions_start noted.log known.told.log (subst (λ (l : List (Option E)). StartsWith l known.told.log) (sym n.is)
-        (shorter known.told.log after.seen.log all.log (prefix_then known.told.log known.all.log all.log r.told.begins s.kept) s.begins (omega (arith, late, r.told.number))))
+    pub informed : known.number ≤ length after.seen.log → StartsWith (editions_of noted.log)
+        (editions_of known.told.log)
+    informed late = editions_start noted.log known.told.log
+        (subst (λ (l : List (Option E)). StartsWith l known.told.log) (sym n.is)
+        (shorter known.told.log after.seen.log all.log (prefix_then known.told.log known.all.log
+        all.log r.told.begins s.kept) s.begins (omega (arith, late, r.told.number))))
 
-    pub last : known.number ≤ length after.seen.log → known.closed ≡ true → editions_of noted.log ≡ editions_of known.told.log
+    pub last : known.number ≤ length after.seen.log → known.closed ≡ true → editions_of noted.log
+        ≡ editions_of known.told.log
     last late closed =
         let t = told_more before after known all r.told s in
-        ap editions_of (n.is ∙ prefix_whole after.seen.log known.told.log (within_closed known.told.log all.log after.seen.log (t.last closed) s.unclosed s.begins) (omega (arith, late, r.told.number)))
+        ap editions_of (n.is ∙ prefix_whole after.seen.log known.told.log
+        (within_closed known.told.log all.log after.seen.log (t.last closed) s.unclosed
+        s.begins) (omega (arith, late, r.told.number)))
 
     pub later : StartsWith (editions_of noted.log) (editions_of seen.log)
-    later = editions_start noted.log seen.log (subst (λ (l : List (Option E)). StartsWith l seen.log) (sym n.is) (seen_later before after seen count known all r s))
+    later = editions_start noted.log seen.log
+        (subst (λ (l : List (Option E)). StartsWith l seen.log) (sym n.is)
+        (seen_later before after seen count known all r s))
 
-    pub gains : Notes before after → after.entries ≡ before.entries ++ length (editions_of noted.log) ∷ []
-    gains notes = notes ∙ ap (λ k. before.entries ++ k ∷ []) (sym (ap (λ l. length (editions_of l)) n.is ∙ editions_length after.seen.log s.unclosed))
+    pub gains : Notes before after → after.entries ≡ before.entries ++ length
+        (editions_of noted.log) ∷ []
+    gains notes = notes ∙ ap (λ k. before.entries ++ k ∷ [])
+        (sym (ap (λ l. length (editions_of l)) n.is ∙ editions_length after.seen.log s.unclosed))
 
-    pub gains_look : NotesLook before after → after.looks ≡ before.looks ++ length (editions_of noted.log) ∷ []
-    gains_look notes = notes ∙ ap (λ k. before.looks ++ k ∷ []) (sym (ap (λ l. length (editions_of l)) n.is ∙ editions_length after.seen.log s.unclosed))
+    pub gains_look : NotesLook before after → after.looks ≡ before.looks ++ length
+        (editions_of noted.log) ∷ []
+    gains_look notes = notes ∙ ap (λ k. before.looks ++ k ∷ [])
+        (sym (ap (λ l. length (editions_of l)) n.is ∙ editions_length after.seen.log s.unclosed))
 
     pub number_is : length after.seen.log ≡ length (editions_of noted.log)
-    number_is = sym (ap (λ l. length (editions_of l)) n.is ∙ editions_length after.seen.log s.unclosed)
+    number_is = sym (ap (λ l. length (editions_of l)) n.is ∙ editions_length after.seen.log
+        s.unclosed)
 
-    pub newest : (edition : E) → EndsWith after.seen.log (Some edition) → EndsWith (editions_of noted.log) edition
-    newest edition ends = editions_end noted.log edition (subst (λ (l : List (Option E)). EndsWith l (Some edition)) (sym n.is) ends)
+    pub newest : (edition : E) → EndsWith after.seen.log (Some edition)
+        → EndsWith (editions_of noted.log) edition
+    newest edition ends = editions_end noted.log edition
+        (subst (λ (l : List (Option E)). EndsWith l (Some edition)) (sym n.is) ends)
 
   -- the reader keeps what it has seen, whatever the sight saw
-  pub stayed : (before after : Sight E) (seen : Token E) (count : ℕ) (known : Knowledge E) (all : Token E) → IsReader before seen count known → after.entries ≡ before.entries
-      → SeesNothing before after known.all all ⊎ SeesMore before after known.all all → IsReader after seen count (record known { all = all })
+  pub stayed : (before after : Sight E) (seen : Token E) (count : ℕ) (known : Knowledge E)
+      (all : Token E) → IsReader before seen count known → after.entries ≡ before.entries
+      → SeesNothing before after known.all all ⊎ SeesMore before after known.all all
+      → IsReader after seen count (record known { all = all })
   stayed before after seen count known all r same step = ⊎_elim
-      (λ (t : SeesNothing before after known.all all). subst (λ (sight : Sight E). IsReader sight seen count (record known { all = all })) (sym t.0) (subst (λ (token : Token E). IsReader before seen count (record known { all = token })) (sym t.1) r))
+      (λ (t : SeesNothing before after known.all all). subst (λ (sight : Sight E). IsReader sight
+      seen count (record known { all = all })) (sym t.0)
+      (subst (λ (token : Token E). IsReader before seen count (record known { all = token }))
+      (sym t.1) r))
       (λ (s : SeesMore before after known.all all). record {
         told = told_more before after known all r.told s;
         opened = s.opened;
@@ -177,7 +254,8 @@ module _ {E : Type 0} where
         begins = prefix_then seen.log known.all.log all.log r.begins s.kept;
         within = seen_later before after seen count known all r s;
         rising = subst IsNonDecreasing (sym same) r.rising;
-        entered = subst (All (λ number. (1 ≤ number) × (number ≤ length seen.log))) (sym same) r.entered;
+        entered = subst (All (λ number. (1 ≤ number) × (number ≤ length seen.log)))
+            (sym same) r.entered;
       }) step
 
 -- what holds of an answer, by what it is

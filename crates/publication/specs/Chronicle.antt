@@ -1,5 +1,5 @@
--- For proofs: the log that carries a history, and the rule under which it grows. No public clause cites it.
--- An entry of the log is an edition, or, as None, the closing entry.
+-- For proofs: the log that carries a history, and the rule under which it grows. No public clause
+-- cites it. An entry of the log is an edition, or, as None, the closing entry.
 use Rattle.std.specs.Prelude.{◌≡◌, ℕ, suc, ◌<◌, ◌≤◌, ◌==◌, true, false, List, [], ◌∷◌, ◌++◌, length, MatchBool, Option, Some, None}
 use Rattle.logbook.specs.Pages.{Cell, cell, Nib, nib, may_write, may_make, Step, View, Book, Named}
 
@@ -21,8 +21,9 @@ IsSettled [] = Unit {0}
 IsSettled (Some edition ∷ log) = IsSettled log
 IsSettled (None ∷ log) = log ≡ []
 
--- The book has a word with the number of its places, and then the places. The first is never used. Each entry
--- takes the next place that is away, which only the holder of its pen can do: it brings that place home.
+-- The book has a word with the number of its places, and then the places. The first is never used.
+-- Each entry takes the next place that is away, which only the holder of its pen can do: it brings
+-- that place home.
 pub record IsKept {E : Type 0} (cells : List Cell) (log : List (Option E)) : Type 0 where
   pub places : List Cell
   pub all : cells ≡ (length places, true) ∷ places
@@ -39,9 +40,12 @@ abbrev pub place_after : ℕ → Nib
 place_after entries = nib may_write (suc (suc entries)) 0
 
 -- one more place was made, and the pen is for it; or others were
-abbrev pub MakesPlace : {E : Type 0} → Step (Option E) → View (Option E) ℕ → ℕ → View (Option E) ℕ → Type 0
-MakesPlace step before found after = MatchBool (found == step.old) (after.1.0 ≡ nib may_make (suc step.old) 0) (Unit {0})
+abbrev pub MakesPlace : {E : Type 0} → Step (Option E) → View (Option E) ℕ → ℕ → View (Option E) ℕ
+    → Type 0
+MakesPlace step before found after =
+    MatchBool (found == step.old) (after.1.0 ≡ nib may_make (suc step.old) 0) (Unit {0})
 
 -- the entry was added to all that had been seen
-abbrev pub AddsEntry : {E : Type 0} → Step (Option E) → View (Option E) ℕ → ℕ → View (Option E) ℕ → Type 0
+abbrev pub AddsEntry : {E : Type 0} → Step (Option E) → View (Option E) ℕ → ℕ → View (Option E) ℕ
+    → Type 0
 AddsEntry step before found after = after.0 ≡ before.0 ++ step.ask ∷ []

@@ -15,7 +15,8 @@ module _ {E : Type 0} where
     pub place : pen.nib ≡ place_after (length slot.log.log)
 
   -- the log is what is published, and once it is closed, the closing entry
-  pub record IsPublisher {P : Type 0} (slot : Slot E) (counter : Named) (log origin : Seen (Option E) ℕ P) (pen : Pen) (closed : Bool) : Type 0 where
+  pub record IsPublisher {P : Type 0} (slot : Slot E) (counter : Named)
+      (log origin : Seen (Option E) ℕ P) (pen : Pen) (closed : Bool) : Type 0 where
     pub sound : IsSound slot
     pub counter_is : counter ≡ counter_of slot.log.book
     pub log_book : log.book ≡ slot.log.book

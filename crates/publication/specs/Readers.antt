@@ -1,5 +1,6 @@
--- For proofs: what a reader knows of its history, by the logs that were reached. No public clause cites it.
-use Rattle.std.specs.Prelude.{◌≡◌, ℕ, ◌≤◌, ◌⊎◌, true, List, [], ◌∷◌, ◌++◌, length, All, Option, None}
+-- For proofs: what a reader knows of its history, by the logs that were reached. No public clause
+-- cites it.
+use Rattle.std.specs.Prelude.{◌≡◌, ℕ, ◌≤◌, ◌⊎◌, true, [], ◌∷◌, ◌++◌, length, All, Option, None}
 use Rattle.std.specs.List.Sorted.{IsNonDecreasing}
 use mathlib.Core.List.{IsPrefix}
 use Rattle.logbook.specs.declared.tokens.Seen.{Seen}
@@ -13,7 +14,11 @@ module _ {E : Type 0} where
   opening_by origin = record { book = origin.book; editions = editions_of origin.log }
 
   abbrev pub history_by : Knowledge E → History E
-  history_by known = record { opening = opening_by known.origin; editions = editions_of known.told.log; closed = known.closed }
+  history_by known = record {
+    opening = opening_by known.origin;
+    editions = editions_of known.told.log;
+    closed = known.closed;
+  }
 
   abbrev pub view_by : {P : Type 0} → Sight E → Seen (Option E) ℕ P → Knowledge E → View E
   view_by sight seen known = record {
@@ -25,7 +30,8 @@ module _ {E : Type 0} where
     looks = sight.looks;
   }
 
-  -- what was told begins all that is known, and where it is closed, nothing but the closing entry follows
+  -- what was told begins all that is known, and where it is closed, nothing but the closing entry
+  -- follows
   pub record IsTold (known : Knowledge E) : Type 0 where
     pub told_book : known.told.book ≡ known.origin.book
     pub all_book : known.all.book ≡ known.origin.book
@@ -38,7 +44,8 @@ module _ {E : Type 0} where
     pub last : known.closed ≡ true → known.all.log ≡ known.told.log ++ None ∷ []
 
   -- what was seen begins all that is known, too, and what the sight has seen
-  pub record IsReader {P : Type 0} (sight : Sight E) (seen : Seen (Option E) ℕ P) (count : ℕ) (known : Knowledge E) : Type 0 where
+  pub record IsReader {P : Type 0} (sight : Sight E) (seen : Seen (Option E) ℕ P) (count : ℕ)
+      (known : Knowledge E) : Type 0 where
     pub told : IsTold known
     pub opened : sight.opened ≡ true
     pub book : sight.seen.book ≡ known.origin.book
@@ -50,7 +57,8 @@ module _ {E : Type 0} where
     pub entered : All (λ number. (1 ≤ number) × (number ≤ length seen.log)) sight.entries
 
   -- a step by which a reader sees more, and so knows more
-  pub record SeesMore {P : Type 0} (before after : Sight E) (known all : Seen (Option E) ℕ P) : Type 0 where
+  pub record SeesMore {P : Type 0} (before after : Sight E) (known all : Seen (Option E) ℕ P) :
+      Type 0 where
     pub later : StartsWith after.seen.log before.seen.log
     pub opened : after.opened ≡ true
     pub book : after.seen.book ≡ before.seen.book
@@ -70,11 +78,13 @@ module _ {E : Type 0} where
   NotesLook before after = after.looks ≡ before.looks ++ length after.seen.log ∷ []
 
   -- nothing was seen
-  abbrev pub SeesNothing : {P : Type 0} → Sight E → Sight E → Seen (Option E) ℕ P → Seen (Option E) ℕ P → Type 0
+  abbrev pub SeesNothing : {P : Type 0} → Sight E → Sight E → Seen (Option E) ℕ P
+      → Seen (Option E) ℕ P → Type 0
   SeesNothing before after known all = (after ≡ before) × (all ≡ known)
 
   -- more was seen or nothing, and nothing was noted
-  pub record Glimpses {P : Type 0} (before after : Sight E) (known all : Seen (Option E) ℕ P) : Type 0 where
+  pub record Glimpses {P : Type 0} (before after : Sight E) (known all : Seen (Option E) ℕ P) :
+      Type 0 where
     pub entries : after.entries ≡ before.entries
     pub looks : after.looks ≡ before.looks
     pub opened : after.opened ≡ true
@@ -82,6 +92,7 @@ module _ {E : Type 0} where
     pub sees : SeesNothing before after known all ⊎ SeesMore before after known all
 
   -- what was seen in a step, as the reader keeps it
-  pub record IsNoted {P : Type 0} (after : Sight E) (seen : Seen (Option E) ℕ P) (count : ℕ) : Type 0 where
+  pub record IsNoted {P : Type 0} (after : Sight E) (seen : Seen (Option E) ℕ P) (count : ℕ) :
+      Type 0 where
     pub is : seen.log ≡ after.seen.log
     pub counted : count ≡ length after.seen.log

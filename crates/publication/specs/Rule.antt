@@ -1,4 +1,5 @@
--- For proofs: the rule under which editions are published beside readers. No public clause cites it.
+-- For proofs: the rule under which editions are published beside readers. No public clause cites
+-- it.
 use Rattle.std.specs.Prelude.{◌≡◌, ℕ, List, [], ◌∷◌, ◌++◌, length, true, false}
 use mathlib.Core.Option.{some}
 use lib.ListN.{get_elem?}
@@ -10,7 +11,17 @@ use Rattle.publication.specs.declared.rule.Sight.{Sight}
 module _ {E : Type 0} where
   -- one that knows nothing
   abbrev pub blank : Sight E
-  blank = record { seen = record { book = record { number = 0; log_name = 0; cells_name = 0 }; names = []; log = []; marker = record {} }; entries = []; looks = []; opened = false }
+  blank = record {
+    seen = record {
+      book = record { number = 0; log_name = 0; cells_name = 0 };
+      names = [];
+      log = [];
+      marker = record {};
+    };
+    entries = [];
+    looks = [];
+    opened = false;
+  }
 
   -- what was seen is a beginning of what is published, of the same opening
   pub record Knows (slot : Slot E) (sight : Sight E) : Type 0 where
@@ -18,11 +29,17 @@ module _ {E : Type 0} where
     pub begins : StartsWith slot.log.log sight.seen.log
 
   abbrev pub Holds : Slot E → List (Sight E) → Type 0
-  Holds slot sights = IsSound slot × ((seat : ℕ) (sight : Sight E) → get_elem? sights seat ≡ some sight → Knows slot sight)
+  Holds slot sights = IsSound slot × ((seat : ℕ) (sight : Sight E)
+      → get_elem? sights seat ≡ some sight → Knows slot sight)
 
   -- what is seen is all that is published
   abbrev pub seeing : Slot E → Sight E → Sight E
-  seeing slot sight = record { seen = slot.log; entries = sight.entries; looks = sight.looks; opened = true }
+  seeing slot sight = record {
+    seen = slot.log;
+    entries = sight.entries;
+    looks = sight.looks;
+    opened = true;
+  }
 
   -- and its number is noted as that of an entry
   abbrev pub noting_entry : Slot E → Sight E → Sight E
@@ -63,4 +80,9 @@ module _ {E : Type 0} where
 
   -- what a reader is told at the opening: which one it is
   abbrev pub told_of : Sight E → Sight E
-  told_of sight = record { seen = record sight.seen { log = [] }; entries = []; looks = []; opened = sight.opened }
+  told_of sight = record {
+    seen = record sight.seen { log = [] };
+    entries = [];
+    looks = [];
+    opened = sight.opened;
+  }

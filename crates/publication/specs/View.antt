@@ -1,4 +1,5 @@
--- The history of a publisher, and what a reader of it has seen, which public clauses cite. The project's own.
+-- The history of a publisher, and what a reader of it has seen, which public clauses cite. The
+-- project's own.
 use Rattle.std.specs.Prelude.{◌≡◌, ℕ, ◌≤◌, ◌⊎◌, Bool, false, IsTrue, List, [], ◌∷◌, ◌++◌, length, All, refl}
 use Rattle.std.specs.List.Sorted.{IsNonDecreasing}
 use Rattle.std.specs.Coded.{Coded, code_by, coded×, coded_list, coded_ℕ, coded_bool}
@@ -19,8 +20,9 @@ pub record Opening (E : Type 0) : Type 0 where
   -- the history that it began with
   pub editions : List E
 
--- A publisher, by the editions that it published, in their order: the edition at place n, counted from 1, has
--- the number n. The list only grows, at its end, and is closed where it won't grow any more.
+-- A publisher, by the editions that it published, in their order: the edition at place n, counted
+-- from 1, has the number n. The list only grows, at its end, and is closed where it won't grow any
+-- more.
 pub record History (E : Type 0) : Type 0 where
   pub opening : Opening E
   pub editions : List E
@@ -31,7 +33,8 @@ pub record View (E : Type 0) : Type 0 where
   pub opening : Opening E
   -- the editions that it has seen: a beginning of the history
   pub seen : List E
-  -- the longest beginning of the history that it was told of; each other one that it was told begins this one
+  -- the longest beginning of the history that it was told of; each other one that it was told
+  -- begins this one
   pub told : List E
   -- whether the history was closed when that was told
   pub closed : Bool
@@ -40,9 +43,17 @@ pub record View (E : Type 0) : Type 0 where
   -- the numbers of the editions that were the newest at its looks, in their order
   pub looks : List ℕ
 
--- a reader that has seen nothing, was told of the history at the opening, and has no entry and no look
+-- a reader that has seen nothing, was told of the history at the opening, and has no entry and no
+-- look
 abbrev pub newcomer : {E : Type 0} → Opening E → View E
-newcomer opening = record { opening = opening; seen = []; told = opening.editions; closed = false; entries = []; looks = [] }
+newcomer opening = record {
+  opening = opening;
+  seen = [];
+  told = opening.editions;
+  closed = false;
+  entries = [];
+  looks = [];
+}
 
 -- What holds of every view.
 pub record IsView {E : Type 0} (view : View E) : Type 0 where
@@ -78,11 +89,14 @@ GainsLook old new = new.looks ≡ old.looks ++ length new.seen ∷ []
 -- how the three are stored in a proof
 abbrev pub opening_code : {E : Type 0} → Coded E → Coded (Opening E)
 opening_code {E} code =
-    code_by (Book × List E) (coded× book_coded (coded_list code)) (λ opening. (opening.book, opening.editions)) (λ p. record { book = p.0; editions = p.1 }) (λ _. refl)
+    code_by (Book × List E) (coded× book_coded (coded_list code))
+    (λ opening. (opening.book, opening.editions)) (λ p. record { book = p.0; editions = p.1 })
+    (λ _. refl)
 
 abbrev pub history_code : {E : Type 0} → Coded E → Coded (History E)
 history_code {E} code =
-    code_by (Opening E × (List E × Bool)) (coded× (opening_code code) (coded× (coded_list code) coded_bool))
+    code_by (Opening E × (List E × Bool))
+    (coded× (opening_code code) (coded× (coded_list code) coded_bool))
     (λ history. (history.opening, (history.editions, history.closed)))
     (λ p. record { opening = p.0; editions = p.1.0; closed = p.1.1 })
     (λ _. refl)
@@ -91,7 +105,15 @@ abbrev pub view_code : {E : Type 0} → Coded E → Coded (View E)
 view_code {E} code =
     code_by ((Opening E × List E) × ((List E × Bool) × (List ℕ × List ℕ)))
     (coded× (coded× (opening_code code) (coded_list code))
-    (coded× (coded× (coded_list code) coded_bool) (coded× (coded_list coded_ℕ) (coded_list coded_ℕ))))
+    (coded× (coded× (coded_list code) coded_bool)
+    (coded× (coded_list coded_ℕ) (coded_list coded_ℕ))))
     (λ view. ((view.opening, view.seen), ((view.told, view.closed), (view.entries, view.looks))))
-    (λ p. record { opening = p.0.0; seen = p.0.1; told = p.1.0.0; closed = p.1.0.1; entries = p.1.1.0; looks = p.1.1.1 })
+    (λ p. record {
+      opening = p.0.0;
+      seen = p.0.1;
+      told = p.1.0.0;
+      closed = p.1.0.1;
+      entries = p.1.1.0;
+      looks = p.1.1.1;
+    })
     (λ _. refl)

@@ -114,8 +114,8 @@ pub(crate) fn make_place<E>(counter: &Counter<E>, known: &Token<E>, entries: u64
     Ok(pen)
 }
 
-// A new log with its first entry: the word that counts its places, the log before and after that entry, and the
-// pen of the next one.
+// A new log with its first entry: the word that counts its places, the log before and after that
+// entry, and the pen of the next one.
 pub(crate) fn open_log<E>(first: &Arc<E>) -> Mem<(Counter<E>, Token<E>, Token<E>, Pen)>
     ensures nothing { IfOk result (λ t. t.1.log ≡ []) }
     ensures log { IfOk result (λ t. t.2.log ≡ Some (arc_value first.now) ∷ []) }

@@ -1,9 +1,10 @@
 //! Editions that one publisher hands to its readers, each of which sees a beginning of one history.
 //!
-//! A history begins with one edition, and each publication adds one at its end, in one step. Readers enter
-//! beside the publisher and wait for nobody. What is published, and what each reader has seen of it, stands
-//! under the rule of `specs/Rule.antt`, on `left_right`; what is told and learnt, and which opening it belongs
-//! to, is known by a log that exists in proofs alone, of `specs/Chronicle.antt`, on `logbook`.
+//! A history begins with one edition, and each publication adds one at its end, in one step.
+//! Readers enter beside the publisher and wait for nobody. What is published, and what each reader
+//! has seen of it, stands under the rule of `specs/Rule.antt`, on `left_right`; what is told and
+//! learnt, and which opening it belongs to, is known by a log that exists in proofs alone, of
+//! `specs/Chronicle.antt`, on `logbook`.
 #![tactic(auto)]
 
 mod chronicle;

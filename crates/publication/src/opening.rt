@@ -68,7 +68,13 @@ fn known_at_opening<E>(origin: &Token<E>) -> Knowledge<E>
     requires one { length origin.now.log ≡ 1 }
     requires unclosed { IsOpen origin.now.log }
     ensures told { IsTold result }
-    ensures is { result ≡ record { origin = origin.now; told = origin.now; all = origin.now; number = 1; closed = false } }
+    ensures is { result ≡ record {
+      origin = origin.now;
+      told = origin.now;
+      all = origin.now;
+      number = 1;
+      closed = false;
+    } }
 {
     Knowledge {
         origin: origin.again(),
@@ -91,7 +97,8 @@ fn add_reader<E: Drop>(
     requires opened { (sight writer.old.desk.place).opened ≡ true }
     requires book { (sight writer.old.desk.place).seen.book ≡ origin.now.book }
     ensures shown { writer.new.desk.shown ≡ writer.old.desk.shown }
-    ensures pending { drop writer.new.behind writer.new.log.items ≡ drop writer.old.behind writer.old.log.items }
+    ensures pending { drop writer.new.behind writer.new.log.items
+        ≡ drop writer.old.behind writer.old.log.items }
     ensures sight { sight writer.new.desk.place ≡ sight writer.old.desk.place }
     ensures reader { IfOk result (λ reader. reader ≡ newcomer (opening_by origin.now)) }
 {
@@ -115,7 +122,8 @@ fn add_readers<E: Drop>(
     requires opened { (sight writer.old.desk.place).opened ≡ true }
     requires book { (sight writer.old.desk.place).seen.book ≡ origin.now.book }
     ensures shown { writer.new.desk.shown ≡ writer.old.desk.shown }
-    ensures pending { drop writer.new.behind writer.new.log.items ≡ drop writer.old.behind writer.old.log.items }
+    ensures pending { drop writer.new.behind writer.new.log.items
+        ≡ drop writer.old.behind writer.old.log.items }
     ensures count { IfOk result (λ all. vec_len all ≡ readers) }
     ensures readers { IfOk result (λ all. All (λ reader. reader ≡ newcomer
         (opening_by origin.now)) all.items) }
@@ -127,15 +135,17 @@ fn add_readers<E: Drop>(
     Ok(all)
 }
 
-/// Starts a history with its first edition, which has the number 1, and gives its publisher and so many
-/// readers. A reader has seen nothing yet, and was told of the history as it is at the opening.
+/// Starts a history with its first edition, which has the number 1, and gives its publisher and so
+/// many readers. A reader has seen nothing yet, and was told of the history as it is at the
+/// opening.
 ///
-/// Where it is refused it may wait for what it made to end. All room that publishing and reading need is made
-/// here.
+/// Where it is refused it may wait for what it made to end. All room that publishing and reading
+/// need is made here.
 ///
 /// # Errors
 ///
-/// `NoMemory` where an allocation is refused, a further owner of the edition, or a place for a reader.
+/// `NoMemory` where an allocation is refused, a further owner of the edition, or a place for a
+/// reader.
 pub fn open_editions<E: Drop, R: Wait>(
     rt: &R,
     alloc: Global,

@@ -23,8 +23,8 @@ use std::sync::{Arc, Wait};
 
 pub(crate) type SlotWriter<E> = Writer<Slot<E>, Slot<E>, Sight<E>, PublicationRule>;
 
-/// The one that adds editions to a history, seen by contracts as that history. It can't be dropped: whoever
-/// opened the editions ends it by [`Publisher::close`].
+/// The one that adds editions to a history, seen by contracts as that history. It can't be dropped:
+/// whoever opened the editions ends it by [`Publisher::close`].
 pub struct Publisher<E: Drop>
 where
     Slot<E>: Absorb<Slot<E>, State = Shown<E>>,
@@ -51,15 +51,22 @@ where
 
     ghost coded = { history_code E.code };
 
-    ghost view = { λ p. record { opening = opening_by p.origin; editions = editions_of p.writer.desk.shown.value.log.log; closed = p.closed } };
+    ghost view = { λ p. record {
+      opening = opening_by p.origin;
+      editions = editions_of p.writer.desk.shown.value.log.log;
+      closed = p.closed;
+    } };
 
-    ghost invariant = { λ p. IsPublisher p.writer.desk.shown.value p.counter p.log p.origin p.pen p.closed × (drop p.writer.behind p.writer.log.items ≡ []) };
+    ghost invariant = { λ p.
+        IsPublisher p.writer.desk.shown.value p.counter p.log p.origin p.pen p.closed
+        × (drop p.writer.behind p.writer.log.items ≡ []) };
 }
 
 // Hands a change to the writer. Where the writer has no room, it tries again.
 fn append_change<E: Drop, R: Wait>(rt: &R, writer: SlotWriter<E>, change: Slot<E>) -> SlotWriter<E>
     ensures desk { result.desk ≡ writer.desk }
-    ensures pending { drop result.behind result.log.items ≡ drop writer.behind writer.log.items ++ change ∷ [] }
+    ensures pending { drop result.behind result.log.items
+        ≡ drop writer.behind writer.log.items ++ change ∷ [] }
 {
     let mut writer = writer;
     let mut change = change;
@@ -72,8 +79,8 @@ fn append_change<E: Drop, R: Wait>(rt: &R, writer: SlotWriter<E>, change: Slot<E
     unreachable!()
 }
 
-// Publishes a change, which is the only one that waits then. Where the count of an edition's owners is at
-// its end, it tries again.
+// Publishes a change, which is the only one that waits then. Where the count of an edition's owners
+// is at its end, it tries again.
 fn publish_change<E: Drop, R: Wait>(rt: &R, writer: SlotWriter<E>, change: Slot<E>) -> SlotWriter<E>
     requires clean { drop writer.behind writer.log.items ≡ [] }
     requires sound { IsSound change }
@@ -142,7 +149,11 @@ impl<E: Drop> Publisher<E> {
     ) -> Publisher<E>
         requires publisher { IsPublisher writer.desk.shown.value counter log log pen false }
         requires clean { drop writer.behind writer.log.items ≡ [] }
-        ensures { result ≡ record { opening = opening_by log; editions = editions_of writer.desk.shown.value.log.log; closed = false } }
+        ensures { result ≡ record {
+          opening = opening_by log;
+          editions = editions_of writer.desk.shown.value.log.log;
+          closed = false;
+        } }
     {
         let origin = log.again();
         Publisher {
@@ -183,8 +194,8 @@ impl<E: Drop> Publisher<E> {
         })
     }
 
-    /// Tells the history for the last time: no edition can be published from then on. It may be called again,
-    /// for further readers, and takes no memory.
+    /// Tells the history for the last time: no edition can be published from then on. It may be
+    /// called again, for further readers, and takes no memory.
     pub fn tell_last(&mut self) -> Told<E>
         ensures told { result ≡ record self.old { closed = true } }
         ensures closed { self.new ≡ record self.old { closed = true } }
@@ -207,17 +218,18 @@ impl<E: Drop> Publisher<E> {
         })
     }
 
-    /// Adds the edition to the history in one step, and gives its number, which is the new length of the
-    /// history. It may wait for readers that are entering.
+    /// Adds the edition to the history in one step, and gives its number, which is the new length
+    /// of the history. It may wait for readers that are entering.
     ///
     /// # Errors
     ///
-    /// `NoMemory` where the edition has no place in the history, which comes before that step. The history is
-    /// then as it was.
+    /// `NoMemory` where the edition has no place in the history, which comes before that step. The
+    /// history is then as it was.
     pub fn publish<R: Wait>(&mut self, rt: &R, next: Arc<E>) -> Mem<u64>
         requires unclosed { self.old.closed ≡ false }
         requires room { length self.old.editions + 1 < 2 ^ 64 }
-        ensures history { IfOk result (λ _. self.new.editions ≡ self.old.editions ++ arc_value next ∷ []) }
+        ensures history { IfOk result (λ _.
+            self.new.editions ≡ self.old.editions ++ arc_value next ∷ []) }
         ensures number { IfOk result (λ number. number ≡ length self.new.editions) }
         ensures unchanged { OnErr result (self.new ≡ self.old) }
         ensures opening { self.new.opening ≡ self.old.opening }

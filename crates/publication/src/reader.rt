@@ -105,7 +105,8 @@ fn sighting_of<E>(slot: &Slot<E>) -> Sighting<E>
 
 fn edition_of<E>(slot: &Slot<E>) -> Mem<Entered<E>>
     ensures number { IfOk result (λ entered. entered.number ≡ slot.now.number) }
-    ensures edition { IfOk result (λ entered. arc_value entered.edition ≡ arc_value slot.now.edition) }
+    ensures edition { IfOk result (λ entered. arc_value entered.edition
+        ≡ arc_value slot.now.edition) }
 {
     Ok(Entered {
         number: slot.number,
@@ -237,7 +238,8 @@ fn look_at<E: Drop>(reader: &mut SlotReader<E>, known: Token<E>) -> (Token<E>, M
     replace_with(reader, known, |reader, known| look_once(reader, known))
 }
 
-// Sees what is published where more was told than this reader has seen, so that it has seen no less then.
+// Sees what is published where more was told than this reader has seen, so that it has seen no less
+// then.
 fn catch_up<E: Drop>(
     reader: &mut SlotReader<E>,
     known: Token<E>,
@@ -334,14 +336,14 @@ impl<E: Drop> EditionReader<E> {
         }
     }
 
-    /// Gives the newest edition of the history at this step, which waits for nobody. From then on the reader
-    /// has seen the history as it was at that step, and its view has one entry more. No edition is older than
-    /// one that the reader has seen or was told of.
+    /// Gives the newest edition of the history at this step, which waits for nobody. From then on
+    /// the reader has seen the history as it was at that step, and its view has one entry more. No
+    /// edition is older than one that the reader has seen or was told of.
     ///
     /// # Errors
     ///
-    /// `NoMemory` where the entry is refused, or a further owner of the edition. The view is then as it was,
-    /// or has gained that one entry, of the newest edition.
+    /// `NoMemory` where the entry is refused, or a further owner of the edition. The view is then
+    /// as it was, or has gained that one entry, of the newest edition.
     pub fn enter(&mut self) -> Mem<Entered<E>>
         // What the entry gives.
         ensures number { IfOk result (λ entered. entered.number ≡ length self.new.seen) }
@@ -372,8 +374,9 @@ impl<E: Drop> EditionReader<E> {
         noted.entered
     }
 
-    /// Sees the history as it is at this step, which waits for nobody, without an entry: its view has one
-    /// look more, of the newest edition at this step, which is the last that it has seen from then on.
+    /// Sees the history as it is at this step, which waits for nobody, without an entry: its view
+    /// has one look more, of the newest edition at this step, which is the last that it has seen
+    /// from then on.
     ///
     /// # Errors
     ///
@@ -402,8 +405,8 @@ impl<E: Drop> EditionReader<E> {
         Ok(())
     }
 
-    /// Learns what the publisher told. From then on each entry is at least as new, and where that was told
-    /// for the last time, the reader sees nothing else. It takes no memory.
+    /// Learns what the publisher told. From then on each entry is at least as new, and where that
+    /// was told for the last time, the reader sees nothing else. It takes no memory.
     pub fn learn(&mut self, told: Told<E>)
         requires opening { told.opening ≡ self.old.opening }
 
@@ -433,8 +436,8 @@ impl<E: Drop> EditionReader<E> {
         let _ = &self.knowledge;
     }
 
-    /// What two readers of one opening have seen, and what they were told, begins one history. It does nothing:
-    /// its contract is the law.
+    /// What two readers of one opening have seen, and what they were told, begins one history. It
+    /// does nothing: its contract is the law.
     pub fn shares_history(&self, other: &EditionReader<E>)
         requires { other.now.opening ≡ self.now.opening }
         ensures { ShareHistory self.now other.now }

@@ -56,8 +56,9 @@ fn an_entry_gives_the_newest_edition_at_its_own_step(rt: HostRuntime) {
     publisher.close(&rt);
 }
 
-// Publishes an edition as far as there is memory for it, and answers the newest edition of the history then
-// with its number, where a reader is given that one. A publication takes no memory, so none is refused.
+// Publishes an edition as far as there is memory for it, and answers the newest edition of the
+// history then with its number, where a reader is given that one. A publication takes no memory, so
+// none is refused.
 fn publish_and_enter<R: Wait>(
     rt: &R,
     alloc: Global,
@@ -79,7 +80,8 @@ fn publish_and_enter<R: Wait>(
     enter(reader).filter(|entered| *entered == expected)
 }
 
-// Where the one edition is refused, for which a run lets the allocation fail, the other one is published.
+// Where the one edition is refused, for which a run lets the allocation fail, the other one is
+// published.
 #[test]
 fn an_edition_that_is_refused_has_no_place_in_the_history(rt: HostRuntime) {
     let alloc = rt.alloc();
@@ -142,7 +144,8 @@ fn an_edition_that_nobody_has_is_dropped(rt: HostRuntime) {
     publisher.close(&rt);
 }
 
-// Publishes editions up to this number, as far as memory allows, and answers how many the history has then.
+// Publishes editions up to this number, as far as memory allows, and answers how many the history
+// has then.
 fn publish_up_to<R: Wait>(rt: &R, alloc: Global, publisher: &mut Publisher<u64>, last: u64) -> u64
     requires { publisher.old.closed ≡ false }
 {
@@ -161,7 +164,8 @@ fn publish_up_to<R: Wait>(rt: &R, alloc: Global, publisher: &mut Publisher<u64>,
     publisher.count()
 }
 
-// Enters again and again. It answers whether the numbers never fell, and each edition was that with its number.
+// Enters again and again. It answers whether the numbers never fell, and each edition was that with
+// its number.
 fn numbers_rise(reader: &mut EditionReader<u64>) -> bool {
     let mut newest = 1;
     for _ in 0..ENTRIES {

@@ -13,18 +13,23 @@ use Rattle.link_io.proofs.Laws.{Takes-then, Takes-none}
 pub record HasHeard (left left_after : Option (List ℕ)) (old new : Reading) : Type 0 where
   pub bytes : List ℕ
   pub takes : Takes left bytes left_after
-  pub given : (fed : List ℕ) (given : List Request) → HasGiven fed given old.rest → HasGiven (fed ++ bytes) given new.rest
+  pub given : (fed : List ℕ) (given : List Request) → HasGiven fed given old.rest
+      → HasGiven (fed ++ bytes) given new.rest
 
-pub HasHeard-nothing : (left : Option (List ℕ)) (reading : Reading) → HasHeard left left reading reading
+pub HasHeard-nothing : (left : Option (List ℕ)) (reading : Reading) → HasHeard left left reading
+    reading
 HasHeard-nothing left reading = record {
   bytes = [];
   takes = Takes-none left;
-  given = λ fed given before. subst (λ w. HasGiven w given reading.rest) (sym (append-nil fed)) before;
+  given = λ fed given before. subst (λ w. HasGiven w given reading.rest) (sym (append-nil fed))
+      before;
 }
 
 -- a further piece was read and fed
-pub HasHeard-more : (left middle after : Option (List ℕ)) (old now new : Reading) (rest bytes : List ℕ)
-    → HasHeard left middle old now → rest ≡ now.rest → Takes middle bytes after → new.rest ≡ rest ++ bytes
+pub HasHeard-more : (left middle after : Option (List ℕ)) (old now new : Reading)
+    (rest bytes : List ℕ)
+    → HasHeard left middle old now → rest ≡ now.rest → Takes middle bytes after → new.rest ≡ rest
+    ++ bytes
     → HasHeard left after old new
 HasHeard-more left middle after old now new rest bytes heard same takes fed_is = record {
   bytes = heard.bytes ++ bytes;
@@ -37,7 +42,8 @@ HasHeard-more left middle after old now new rest bytes heard same takes fed_is =
       (subst (HasGiven ((fed ++ heard.bytes) ++ bytes) given) rest_is grown);
 }
 
-pub rest_after_more : (old : Reading) (next : Next) (left : List ℕ) → Answers old next left → next ≡ answers.More
+pub rest_after_more : (old : Reading) (next : Next) (left : List ℕ) → Answers old next left
+    → next ≡ answers.More
     → left ≡ old.rest
 rest_after_more old next left answer is =
     let more : Answers old answers.More left = subst (λ w. Answers old w left) is answer in more.0

@@ -15,61 +15,75 @@ use Rattle.session.specs.Text.{Replier, is_last, answerable, answerable_from, up
 answerable_from-take : (number room : ℕ) (requests : List Request) → number + room ≡ 1000
     → answerable_from number requests ≡ take (suc room) (up_to_close requests)
 answerable_from-take number room [] fits = refl
-answerable_from-take number zero (request ∷ requests) fits = ap (λ rest. request ∷ rest) (by request.close)
+answerable_from-take number zero (request ∷ requests) fits = ap (λ rest. request ∷ rest)
+    (by request.close)
   where
     full : (number == 1000) ≡ true
     full = eq-eqb number 1000 (omega arith)
 
-    by : (close : Bool) → (if close || number == 1000 then [] else answerable_from (number + 1) requests) ≡ []
+    by : (close : Bool) → (if close || number == 1000 then [] else answerable_from
+        (number + 1) requests) ≡ []
     by true = refl
     by false = rw full refl
 answerable_from-take number (suc room) (request ∷ requests) fits =
-    ap (λ rest. request ∷ rest) (by request.close (answerable_from-take (number + 1) room requests (omega arith)))
+    ap (λ rest. request ∷ rest) (by request.close (answerable_from-take (number + 1) room requests
+    (omega arith)))
   where
     more : (number == 1000) ≡ false
     more = ne_eqb number 1000 (λ is. omega arith)
 
-    by : (close : Bool) → answerable_from (number + 1) requests ≡ take (suc room) (up_to_close requests)
+    by : (close : Bool) → answerable_from (number + 1) requests ≡ take (suc room)
+        (up_to_close requests)
         → (if close || number == 1000 then [] else answerable_from (number + 1) requests)
         ≡ take (suc room) (if close then [] else up_to_close requests)
     by true later = refl
     by false later = rw more later
 
-pub answerable-take : (requests : List Request) → answerable requests ≡ take 1000 (up_to_close requests)
+pub answerable-take : (requests : List Request) → answerable requests ≡ take 1000
+    (up_to_close requests)
 answerable-take requests = answerable_from-take 1 999 requests (omega arith)
 
 -- ---- a history that grew
 
-slice_get-grown : {E : Type 0} (history more : List E) (place : ℕ) → IsSome (slice_get history place)
+slice_get-grown : {E : Type 0} (history more : List E) (place : ℕ)
+    → IsSome (slice_get history place)
     → slice_get (history ++ more) place ≡ slice_get history place
 slice_get-grown [] more place known = absurd (false≢true known)
 slice_get-grown (x ∷ history) more zero known = refl
 slice_get-grown (x ∷ history) more (suc place) known = slice_get-grown history more place known
 
-pub edition_at-grown : {E : Type 0} (history more : List E) (entry : ℕ) → IsSome (edition_at history entry)
+pub edition_at-grown : {E : Type 0} (history more : List E) (entry : ℕ)
+    → IsSome (edition_at history entry)
     → edition_at (history ++ more) entry ≡ edition_at history entry
 edition_at-grown history more zero known = absurd (false≢true known)
 edition_at-grown history more (suc place) known = slice_get-grown history more place known
 
 module _ {E : Type 0} (reply : Replier E) where
   -- the replies stay when the history grows
-  pub replies-grown : (history more : List E) (number : ℕ) (requests : List Request) (entries : List ℕ)
+  pub replies-grown : (history more : List E) (number : ℕ) (requests : List Request)
+      (entries : List ℕ)
       → All (λ entry. IsSome (edition_at history entry)) entries
-      → replies_from reply (history ++ more) number requests entries ≡ replies_from reply history number requests entries
+      → replies_from reply (history ++ more) number requests entries ≡ replies_from reply history
+      number requests entries
   replies-grown history more number [] entries known = refl
   replies-grown history more number (request ∷ requests) [] known = refl
   replies-grown history more number (request ∷ requests) (entry ∷ entries) known =
       let P : ℕ → Type 0 = λ entry. IsSome (edition_at history entry) in
       let here = edition_at-grown history more entry (All-head P entry entries known) in
-      let first : reply_by reply (history ++ more) entry request (is_last number request) ≡ reply_by reply history entry request (is_last number request) =
-      ap (λ (w : Option E). option_map_or (λ (edition : E). reply entry edition request (is_last number request)) w []) here in
-      let rest = replies-grown history more (number + 1) requests entries (All-tail P entry entries known) in
+      let first : reply_by reply (history ++ more) entry request (is_last number request)
+      ≡ reply_by reply history entry request (is_last number request) =
+      ap (λ (w : Option E). option_map_or (λ (edition : E). reply entry edition request
+      (is_last number request)) w []) here in
+      let rest = replies-grown history more (number + 1) requests entries
+      (All-tail P entry entries known) in
       cc (first, rest)
 
   -- only as many requests count as there are entries
-  pub replies-front : (history : List E) (number : ℕ) (requests more : List Request) (entries : List ℕ)
+  pub replies-front : (history : List E) (number : ℕ) (requests more : List Request)
+      (entries : List ℕ)
       → length entries ≤ length requests
-      → replies_from reply history number (requests ++ more) entries ≡ replies_from reply history number requests entries
+      → replies_from reply history number (requests ++ more) entries ≡ replies_from reply history
+      number requests entries
   replies-front history number [] [] [] short = refl
   replies-front history number [] (request ∷ more) [] short = refl
   replies-front history number [] more (entry ∷ entries) short = absurd (omega arith)
@@ -78,7 +92,8 @@ module _ {E : Type 0} (reply : Replier E) where
       let rest = replies-front history (number + 1) requests more entries (omega arith) in cc (rest)
 
   -- one request more, and its entry
-  pub replies-push : (history : List E) (number : ℕ) (requests : List Request) (entries : List ℕ) (request : Request) (entry : ℕ)
+  pub replies-push : (history : List E) (number : ℕ) (requests : List Request) (entries : List ℕ)
+      (request : Request) (entry : ℕ)
       → length entries ≡ length requests
       → replies_from reply history number (requests ++ request ∷ []) (entries ++ entry ∷ [])
       ≡ replies_from reply history number requests entries
@@ -88,28 +103,35 @@ module _ {E : Type 0} (reply : Replier E) where
   replies-push history number [] (other ∷ entries) request entry same = absurd (omega arith)
   replies-push history number (first ∷ requests) [] request entry same = absurd (omega arith)
   replies-push history number (first ∷ requests) (other ∷ entries) request entry same =
-      let counted : (number + 1) + length requests ≡ number + length (first ∷ requests) = omega arith in
+      let counted : (number + 1) + length requests ≡ number + length (first ∷ requests) =
+      omega arith in
       let rest = replies-push history (number + 1) requests entries request entry (omega arith) in
       ap (λ w. reply_by reply history other first (is_last number first) ∷ w)
-      (rest ∙ ap (λ w. replies_from reply history (number + 1) requests entries ++ reply_by reply history entry request (is_last w request) ∷ []) counted)
+      (rest ∙ ap (λ w. replies_from reply history (number + 1) requests entries ++ reply_by reply
+      history entry request (is_last w request) ∷ []) counted)
 
   pub length-replies : (history : List E) (number : ℕ) (requests : List Request) (entries : List ℕ)
-      → length entries ≤ length requests → length (replies_from reply history number requests entries) ≡ length entries
+      → length entries ≤ length requests → length (replies_from reply history number requests
+      entries) ≡ length entries
   length-replies history number [] [] short = refl
   length-replies history number [] (entry ∷ entries) short = absurd (omega arith)
   length-replies history number (request ∷ requests) [] short = refl
   length-replies history number (request ∷ requests) (entry ∷ entries) short =
       ap suc (length-replies history (number + 1) requests entries (omega arith))
 
-pub concat-push : (texts : List (List ℕ)) (text : List ℕ) → concat (texts ++ text ∷ []) ≡ concat texts ++ text
+pub concat-push : (texts : List (List ℕ)) (text : List ℕ) → concat (texts ++ text ∷ [])
+    ≡ concat texts ++ text
 concat-push [] text = append-nil text
-concat-push (first ∷ texts) text = ap (λ w. first ++ w) (concat-push texts text) ∙ sym (append_assoc first (concat texts) text)
+concat-push (first ∷ texts) text = ap (λ w. first ++ w) (concat-push texts text)
+    ∙ sym (append_assoc first (concat texts) text)
 
-pub concat-split : (count : ℕ) (texts : List (List ℕ)) → concat texts ≡ concat (take count texts) ++ concat (drop count texts)
+pub concat-split : (count : ℕ) (texts : List (List ℕ)) → concat texts ≡ concat (take count texts)
+    ++ concat (drop count texts)
 concat-split zero texts = refl
 concat-split (suc count) [] = refl
 concat-split (suc count) (text ∷ texts) =
-    ap (λ w. text ++ w) (concat-split count texts) ∙ sym (append_assoc text (concat (take count texts)) (concat (drop count texts)))
+    ap (λ w. text ++ w) (concat-split count texts)
+    ∙ sym (append_assoc text (concat (take count texts)) (concat (drop count texts)))
 
 -- ---- the requests that are answered
 
@@ -119,7 +141,8 @@ closes_last true b c e = refl
 closes_last false true c e = refl
 closes_last false false c e = absurd (false≢true e)
 
-no_close_here : (request : Request) (requests : List Request) → some_closes (request ∷ requests) ≡ false
+no_close_here : (request : Request) (requests : List Request) → some_closes (request ∷ requests)
+    ≡ false
     → (request.close ≡ false) × (some_closes requests ≡ false)
 no_close_here request requests none = by_case request.close (some_closes requests) none
   where
@@ -127,12 +150,14 @@ no_close_here request requests none = by_case request.close (some_closes request
     by_case true b e = absurd (false≢true (sym e))
     by_case false b e = (refl, e)
 
-below_limit : (number : ℕ) (request : Request) → request.close ≡ false → number < 1000 → is_last number request ≡ false
+below_limit : (number : ℕ) (request : Request) → request.close ≡ false → number < 1000
+    → is_last number request ≡ false
 below_limit number request open_still below =
     let apart : eqb number 1000 ≡ false = grind (arith, nat_tests) in cc
 
 -- while none closes and there is room for more, all are answered, and those that follow as well
-pub answerable-open : (number : ℕ) (given more : List Request) → some_closes given ≡ false → number + length given ≤ 1000
+pub answerable-open : (number : ℕ) (given more : List Request) → some_closes given ≡ false
+    → number + length given ≤ 1000
     → answerable_from number (given ++ more) ≡ given ++ answerable_from (number + length given) more
 answerable-open number [] more none room = ap (λ w. answerable_from w more) (omega arith)
 answerable-open number (request ∷ given) more none room =
@@ -144,14 +169,17 @@ answerable-open number (request ∷ given) more none room =
     ∙ ap (λ w. request ∷ w) (rest ∙ ap (λ w. given ++ answerable_from w more) counted)
 
 -- after the last one none is answered
-pub answerable-last : (number : ℕ) (request : Request) (more : List Request) → is_last number request ≡ true
+pub answerable-last : (number : ℕ) (request : Request) (more : List Request)
+    → is_last number request ≡ true
     → answerable_from number (request ∷ more) ≡ request ∷ []
 answerable-last number request more last =
     ap (λ w. request ∷ cond w [] (answerable_from (number + 1) more)) last
 
 -- 1,000 of which none closes are all that are answered
-pub answerable-full : (number : ℕ) (request : Request) (given more : List Request) → some_closes (request ∷ given) ≡ false
-    → number + length given ≡ 1000 → answerable_from number ((request ∷ given) ++ more) ≡ request ∷ given
+pub answerable-full : (number : ℕ) (request : Request) (given more : List Request) → some_closes
+    (request ∷ given) ≡ false
+    → number + length given ≡ 1000 → answerable_from number ((request ∷ given) ++ more) ≡ request
+    ∷ given
 answerable-full number request [] more none room =
     let limit : number ≡ 1000 = omega arith in
     let at : eqb number 1000 ≡ true = grind (arith, nat_tests) in

@@ -3,6 +3,8 @@
 ghost use Rattle.std.specs.Prelude.{◌≡◌, ℕ, ◌+◌, ◌<◌, ◌≤◌, ◌⊎◌, List, [], ◌++◌, length, false, IfOk, IfSome, OnOk, OnErr, IsTrue, Ok};
 ghost use Rattle.plain_data.specs.Causes.{HasCause, IsCaused};
 ghost use Rattle.http_wire.specs.declared.heads.Next.TheVariants as answers;
+ghost use Rattle.http_wire.specs.declared.heads.TheConstants.{MAX_REST_BYTES};
+ghost use Rattle.http_wire.specs.declared.request.TheConstants.{MAX_HEAD_BYTES};
 ghost use Rattle.link_io.specs.Streams.{Takes};
 ghost use Rattle.session.specs.Incoming.{Hears, KnowsEnd};
 
@@ -18,11 +20,11 @@ const PIECE: usize = 4_096;
 // Reads once, and feeds what came to the reader of heads, or tells it that the input ended.
 fn read_piece<L: Link>(link: &mut L, heads: &mut Heads) -> Result<(), Failed>
     requires goes_on { heads.old.ended ≡ false }
-    requires room { length heads.old.rest < 8192 }
+    requires room { length heads.old.rest < MAX_HEAD_BYTES }
 
     ensures fed { (bytes : List ℕ) × Takes (L.remaining link.old) bytes (L.remaining link.new)
         × (heads.new.rest ≡ heads.old.rest ++ bytes) }
-    ensures room_left { length heads.new.rest ≤ 16384 }
+    ensures room_left { length heads.new.rest ≤ MAX_REST_BYTES }
     ensures progress { OnOk result
         (IsTrue heads.new.ended ⊎ (length heads.old.rest < length heads.new.rest)) }
     ensures end { KnowsEnd (L.remaining link.new) heads.new }

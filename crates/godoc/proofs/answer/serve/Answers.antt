@@ -8,5 +8,6 @@ returns-in_default-clause-session g c = Serves-unbegun c.args.edition _ _
 pub returns-in_default-new-clause-session : goal.returns-in_default-new-clause-session
 returns-in_default-new-clause-session g c = Serves-unbegun c.args.edition _ _
 
-pub returns-in_default-open_editions-clause-session : goal.returns-in_default-open_editions-clause-session
+pub returns-in_default-open_editions-clause-session :
+    goal.returns-in_default-open_editions-clause-session
 returns-in_default-open_editions-clause-session g c = Serves-unbegun c.args.edition _ _

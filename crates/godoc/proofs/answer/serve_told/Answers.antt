@@ -12,4 +12,6 @@ returns-clause-session g c edition is =
     let serves = c.serve_link.ensures.serves in
     let closed = serves.closed ∙ c.learn.ensures.closed ∙ or_closed _ _ c.requires.closed in
     let told = serves.told ∙ c.learn.ensures.last c.requires.closed ∙ is in
-    Serves-session edition _ _ _ _ _ _ _ serves.session (subst (λ list. StartsWith list c.serve_link.new.reader.seen) told (serves.view.within closed))
+    Serves-session edition _ _ _ _ _ _ _ serves.session
+    (subst (λ list. StartsWith list c.serve_link.new.reader.seen) told
+    (serves.view.within closed))

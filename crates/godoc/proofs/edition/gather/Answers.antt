@@ -22,17 +22,25 @@ loop-path-preserved g c =
     let path = c.path-item.result in
     let ends = c.in_ok-entry.ensures in
     let read = rw (c.as_str.ensures.text, kept.same_scans) at ends.read in record {
-      gathered = rw (take_more c.args.paths.now c.loop-path.path-index path c.loop-path-test.true, ← c.path-item.is)
+      gathered = rw (
+        take_more c.args.paths.now c.loop-path.path-index path c.loop-path-test.true,
+        ←
+            c.path-item.is,
+      )
           (elim c.if-branch.branch [
             | then-branch+in_ok-from_str+in_ok-insert w ↦
-                IsGathered-package _ _ _ _ _ c.loop-path.found c.if-branch.found w.in_ok-from_str.field-0 path c.in_ok-entry.entry
+                IsGathered-package _ _ _ _ _ c.loop-path.found c.if-branch.found
+                w.in_ok-from_str.field-0 path c.in_ok-entry.entry
                 kept.gathered read (c.in_ok-has_package_clause.ensures.0 w.if-branch.true)
-                (w.in_ok-from_str.ensures.ok ∙ w.package_path-package.ensures ∙ ap package_path w.as_str-then-branch.ensures.text)
+                (w.in_ok-from_str.ensures.ok ∙ w.package_path-package.ensures
+                ∙ ap package_path w.as_str-then-branch.ensures.text)
                 (ap (λ found. found.keys) w.found-is ∙ w.in_ok-insert.ensures.keys)
                 (subst (IsOrdered string_cmp) (sym w.found-is) w.in_ok-insert.ensures.ordered)
             | else-branch w ↦
-                rw w.found-is (IsGathered-other _ _ _ _ _ _ path c.in_ok-entry.entry kept.gathered read
-                (λ clause. false≢true (sym w.if-branch.false ∙ c.in_ok-has_package_clause.ensures.1 clause)))
+                rw w.found-is (IsGathered-other _ _ _ _ _ _ path c.in_ok-entry.entry kept.gathered
+                read
+                (λ clause. false≢true (sym w.if-branch.false ∙ c.in_ok-has_package_clause.ensures.1
+                clause)))
           ]);
       later = omega (arith, ends.later, kept.later);
       same_scans = cc (ends.same_scans, kept.same_scans);

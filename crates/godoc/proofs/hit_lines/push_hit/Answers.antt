@@ -10,6 +10,9 @@ position_of-requires c = rw c.requires.starts (AreLineStarts-line_starts c.args.
 pub returns : goal.returns
 returns c =
     let token = c.args.token.now in
-    let place = position_is c.args.source.now token.span.start c.position_of.result.line c.position_of.result.column (omega (arith, c.requires.within.0, c.requires.within.1)) (rw c.requires.starts at c.position_of.ensures) in
+    let place = position_is c.args.source.now token.span.start c.position_of.result.line
+    c.position_of.result.column (omega (arith, c.requires.within.0, c.requires.within.1))
+    (rw c.requires.starts at c.position_of.ensures) in
     let hit : is_hit c.args.name.now c.args.source.now token ≡ true = cc in
-    rw (line_for_hit c.args.name.now c.args.path.now c.args.source.now token _ _ hit place.0 place.1) c.push_line.ensures
+    rw (line_for_hit c.args.name.now c.args.path.now c.args.source.now token _ _ hit place.0
+    place.1) c.push_line.ensures

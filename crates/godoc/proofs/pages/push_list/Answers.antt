@@ -7,6 +7,7 @@ pub returns : goal.returns
 unfolding list_start list_end
 returns c =
     on_ok_weaker c.push-2.result
-    (λ h. joined_three c.args.text.now _ _ _ c.push.new.self c.push_packages.new.text c.push-2.new.self
+    (λ h. joined_three c.args.text.now _ _ _ c.push.new.self c.push_packages.new.text
+    c.push-2.new.self
     c.in_ok-push.ensures.ok c.in_ok-push_packages.ensures h)
     c.push-2.ensures.ok

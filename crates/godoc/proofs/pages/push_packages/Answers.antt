@@ -10,4 +10,5 @@ returns c =
     let all = take_all c.loop-path.path-index c.args.packages.now c.loop-path-test.false in
     c.loop-path.invariant
     ∙ ap (λ packages. c.args.text.now ++ flat_map (λ p. package_line (string_bytes p)) packages) all
-    ∙ ap (λ lines. c.args.text.now ++ lines) (sym (flat_map-map package_line string_bytes c.args.packages.now))
+    ∙ ap (λ lines. c.args.text.now ++ lines)
+    (sym (flat_map-map package_line string_bytes c.args.packages.now))

@@ -6,7 +6,8 @@ use Rattle.live_core.proofs.laws.trails_are_legal.Goals as goal
 
 pub returns-clause-legal : goal.returns-clause-legal
 returns-clause-legal c pieces entries known =
-    AllPass-from_list_all is_legal (core_answers 1 (trail_of pieces entries)) (trail-verdict pieces entries known).0
+    AllPass-from_list_all is_legal (core_answers 1 (trail_of pieces entries))
+    (trail-verdict pieces entries known).0
 
 pub returns-clause-served : goal.returns-clause-served
 returns-clause-served c pieces entries known = (trail-verdict pieces entries known).1

@@ -9,6 +9,7 @@ abbrev pub invariant-loop-event : goal.invariant-loop-event
 invariant-loop-event l = record {
   past : List Event;
   after : IsAfter l.sources past l.core;
-  answers : l.answers ++ answers_from l.sources past (drop l.event-index l.events) ≡ core_answers l.sources l.events;
+  answers : l.answers ++ answers_from l.sources past (drop l.event-index l.events) ≡ core_answers
+      l.sources l.events;
   editions : l.core.editions ≤ l.event-index + 1;
 }

@@ -10,5 +10,6 @@ compare_exchange-requires g c =
       sym (ap (λ w. w.book) h),
       c.requires.book ∙ sym (ap (λ w. w.book) h),
       offer.0,
-      rw (ap (λ w. w.key) h, c.requires.place) (adds_moves c.args.known.now.log _ _ c.requires.open),
+      rw (ap (λ w. w.key) h, c.requires.place) (adds_moves c.args.known.now.log _ _
+          c.requires.open),
     )

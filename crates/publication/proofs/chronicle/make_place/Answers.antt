@@ -12,5 +12,6 @@ compare_exchange-found-requires g c =
       again ∙ sym (ap (λ w. w.book) h),
       pen.0 ∙ again ∙ sym (ap (λ w. w.book) h),
       offer.0,
-      rw (ap (λ w. w.key) h, pen.1) (makes_moves c.again-known.result.log c.plain-offer.result.ask c.plain-offer.result.state (c.args.entries + 1)),
+      rw (ap (λ w. w.key) h, pen.1) (makes_moves c.again-known.result.log c.plain-offer.result.ask
+          c.plain-offer.result.state (c.args.entries + 1)),
     )

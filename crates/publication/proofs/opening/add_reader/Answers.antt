@@ -9,4 +9,5 @@ pub tell-note-requires : goal.tell-note-requires
 tell-note-requires g c = forks _ (sight c.args.writer.now.desk.place)
 
 pub learn-requires-clause-rule : goal.learn-requires-clause-rule
-learn-requires-clause-rule g c = merges _ (sight c.in_ok-reader.reader.place) _ (sight c.tell-note.result)
+learn-requires-clause-rule g c = merges _ (sight c.in_ok-reader.reader.place) _
+    (sight c.tell-note.result)

@@ -8,7 +8,8 @@ use Rattle.publication.proofs.opening.add_readers.Given as goal
 abbrev pub invariant-loop : goal.invariant-loop
 invariant-loop g l = record {
   shown : l.writer.desk.shown ≡ l.initial.writer.desk.shown;
-  pending : drop l.writer.behind l.writer.log.items ≡ drop l.initial.writer.behind l.initial.writer.log.items;
+  pending : drop l.writer.behind l.writer.log.items ≡ drop l.initial.writer.behind
+      l.initial.writer.log.items;
   sight : sight l.writer.desk.place ≡ sight l.initial.writer.desk.place;
   len : vec_len l.all ≡ l.counter;
   newcomers : All (λ reader. reader ≡ newcomer (opening_by l.origin)) l.all.items;

@@ -7,7 +7,8 @@ pub loop-link-preserved : goal.loop-link-preserved
 loop-link-preserved g c =
     let fed = c.read_piece.ensures.fed in
     record {
-      heard = HasHeard-more _ _ _ _ _ _ _ fed.0 c.loop-link.invariant.heard (rest_after_more _ _ _ c.in_ok-next.ensures.answer c.in-More.is) fed.1 fed.2;
+      heard = HasHeard-more _ _ _ _ _ _ _ fed.0 c.loop-link.invariant.heard
+          (rest_after_more _ _ _ c.in_ok-next.ensures.answer c.in-More.is) fed.1 fed.2;
       end = λ _. c.read_piece.ensures.end;
       read_faults = search rules;
       held = search rules;

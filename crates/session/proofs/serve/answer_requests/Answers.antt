@@ -15,61 +15,88 @@ returns-in_err-heads-clause-session g c =
 
 pub returns-in_err-request-clause-session : goal.returns-in_err-request-clause-session
 returns-in_err-request-clause-session g c =
-    let p = err_from_is_err_and c.from_residual-in_err-request.result c.from_residual-in_err-request.ensures.1 in
+    let p = err_from_is_err_and c.from_residual-in_err-request.result
+    c.from_residual-in_err-request.ensures.1 in
     rw (p.1, p.2, c.next_head.ensures.held)
-    (Session-unheard _ _ _ _ _ _ _ _ _ _ _ c.loop-answered.invariant.progress (omega arith) _ c.in_err-request.ensures.hears (c.next_head.ensures.end c.loop-answered.invariant.end))
+    (Session-unheard _ _ _ _ _ _ _ _ _ _ _ c.loop-answered.invariant.progress (omega arith) _
+    c.in_err-request.ensures.hears (c.next_head.ensures.end c.loop-answered.invariant.end))
 
 pub returns-in_err-refuse-in-Bad-clause-session : goal.returns-in_err-refuse-in-Bad-clause-session
 returns-in_err-refuse-in-Bad-clause-session g c =
     let hears = rw c.in-Bad.is at c.in_ok-request.ensures.hears in
-    let p = err_from_is_err_and c.from_residual-in_err-refuse-in-Bad.result c.from_residual-in_err-refuse-in-Bad.ensures.1 in
+    let p = err_from_is_err_and c.from_residual-in_err-refuse-in-Bad.result
+    c.from_residual-in_err-refuse-in-Bad.ensures.1 in
     rw (p.1, p.2, c.refuse.ensures.remaining)
-    (Session-unrefused _ _ _ _ _ _ _ _ _ _ _ _ c.loop-answered.invariant.progress (omega arith) hears (c.next_head.ensures.end c.loop-answered.invariant.end) _
-    (subst (λ (w : Option (List ℕ)). Writes bad_reply_bytes w (g.L.Sink.held c.refuse.new.link) (Err c.in_err-refuse-in-Bad.field-0.0)) c.next_head.ensures.held c.in_err-refuse-in-Bad.ensures.writes))
+    (Session-unrefused _ _ _ _ _ _ _ _ _ _ _ _ c.loop-answered.invariant.progress
+    (omega arith) hears (c.next_head.ensures.end c.loop-answered.invariant.end) _
+    (subst (λ (w : Option (List ℕ)). Writes bad_reply_bytes w (g.L.Sink.held c.refuse.new.link)
+    (Err c.in_err-refuse-in-Bad.field-0.0)) c.next_head.ensures.held
+    c.in_err-refuse-in-Bad.ensures.writes))
 
 pub returns-in-Bad-clause-session : goal.returns-in-Bad-clause-session
 returns-in-Bad-clause-session g c =
     let hears = rw c.in-Bad.is at c.in_ok-request.ensures.hears in
     rw c.refuse.ensures.remaining
-    (Session-refused _ _ _ _ _ _ _ _ _ _ _ _ c.loop-answered.invariant.progress (omega arith) hears (c.next_head.ensures.end c.loop-answered.invariant.end)
+    (Session-refused _ _ _ _ _ _ _ _ _ _ _ _ c.loop-answered.invariant.progress (omega arith) hears
+    (c.next_head.ensures.end c.loop-answered.invariant.end)
     (rw c.next_head.ensures.held at c.in_ok-refuse-in-Bad.ensures.writes))
 
 pub returns-in-Clean-clause-session : goal.returns-in-Clean-clause-session
 returns-in-Clean-clause-session g c =
     let hears = rw c.in-Clean.is at c.in_ok-request.ensures.hears in
     rw c.next_head.ensures.held
-    (Session-clean _ _ _ _ _ _ _ _ _ _ _ c.loop-answered.invariant.progress (omega arith) hears (c.next_head.ensures.end c.loop-answered.invariant.end))
+    (Session-clean _ _ _ _ _ _ _ _ _ _ _ c.loop-answered.invariant.progress (omega arith) hears
+    (c.next_head.ensures.end c.loop-answered.invariant.end))
 
 pub returns-in_err-entered-clause-session : goal.returns-in_err-entered-clause-session
 returns-in_err-entered-clause-session g c =
     let hears = rw c.in-Head.is at c.in_ok-request.ensures.hears in
-    let p = err_from_is_err_and c.from_residual-in_err-entered.result c.from_residual-in_err-entered.ensures.1 in
+    let p = err_from_is_err_and c.from_residual-in_err-entered.result
+    c.from_residual-in_err-entered.ensures.1 in
     rw (p.1, p.2, c.next_head.ensures.held)
-    (Session-unentered _ _ _ _ _ _ _ _ _ _ _ _ _ c.loop-answered.invariant.progress (omega arith) hears (c.next_head.ensures.end c.loop-answered.invariant.end)
-    c.in_err-entered.ensures.later (⊎_elim inl (λ gains. inr (known_entry _ _ c.in_err-entered.ensures.view gains.0 gains.1 c.in_err-entered.ensures.told)) c.in_err-entered.ensures.refused))
+    (Session-unentered _ _ _ _ _ _ _ _ _ _ _ _ _ c.loop-answered.invariant.progress
+    (omega arith) hears (c.next_head.ensures.end c.loop-answered.invariant.end)
+    c.in_err-entered.ensures.later (⊎_elim
+    inl (λ gains. inr (known_entry _ _ c.in_err-entered.ensures.view gains.0 gains.1
+    c.in_err-entered.ensures.told)) c.in_err-entered.ensures.refused))
 
 pub returns-in_err-answer-clause-session : goal.returns-in_err-answer-clause-session
 returns-in_err-answer-clause-session g c =
     let hears = rw c.in-Head.is at c.in_ok-request.ensures.hears in
-    let enters = known_entry _ _ c.in_ok-entered.ensures.view c.in_ok-entered.ensures.entry c.in_ok-entered.ensures.informed c.in_ok-entered.ensures.told in
-    let made = newest_reply-made (g.R.Responder.reply_of c.args.site.now) c.enter.new.self c.in-Head.request c.is_last-last.result _ _ c.in_ok-entered.ensures.newest c.in_ok-entered.ensures.number in
-    let p = err_from_is_err_and c.from_residual-in_err-answer.result c.from_residual-in_err-answer.ensures.1 in
-    let writes = subst (λ (w : List ℕ). Writes w (g.L.Sink.held c.next_head.new.link) (g.L.Sink.held c.answer.new.link) (Err c.in_err-answer.field-0.0)) made c.in_err-answer.ensures.writes in
+    let enters = known_entry _ _ c.in_ok-entered.ensures.view c.in_ok-entered.ensures.entry
+    c.in_ok-entered.ensures.informed c.in_ok-entered.ensures.told in
+    let made = newest_reply-made (g.R.Responder.reply_of c.args.site.now) c.enter.new.self
+    c.in-Head.request c.is_last-last.result _ _ c.in_ok-entered.ensures.newest
+    c.in_ok-entered.ensures.number in
+    let p = err_from_is_err_and c.from_residual-in_err-answer.result
+    c.from_residual-in_err-answer.ensures.1 in
+    let writes = subst (λ (w : List ℕ). Writes w (g.L.Sink.held c.next_head.new.link)
+    (g.L.Sink.held c.answer.new.link) (Err c.in_err-answer.field-0.0)) made
+    c.in_err-answer.ensures.writes in
     rw (p.1, p.2, c.answer.ensures.remaining)
-    (Session-unanswered _ _ _ _ _ _ _ _ _ _ _ _ _ _ _ c.loop-answered.invariant.progress (omega arith) hears (c.next_head.ensures.end c.loop-answered.invariant.end)
+    (Session-unanswered _ _ _ _ _ _ _ _ _ _ _ _ _ _ _ c.loop-answered.invariant.progress
+    (omega arith) hears (c.next_head.ensures.end c.loop-answered.invariant.end)
     enters c.in_ok-entered.ensures.later c.is_last-last.ensures _
-    (subst (λ (w : Option (List ℕ)). Writes (newest_reply (g.R.Responder.reply_of c.args.site.now) c.enter.new.self c.in-Head.request c.is_last-last.result) w (g.L.Sink.held c.answer.new.link) (Err c.in_err-answer.field-0.0))
+    (subst (λ (w : Option (List ℕ)). Writes (newest_reply (g.R.Responder.reply_of c.args.site.now)
+    c.enter.new.self c.in-Head.request c.is_last-last.result) w
+    (g.L.Sink.held c.answer.new.link) (Err c.in_err-answer.field-0.0))
     c.next_head.ensures.held writes))
 
 pub returns-then-request-clause-session : goal.returns-then-request-clause-session
 returns-then-request-clause-session g c =
     let hears = rw c.in-Head.is at c.in_ok-request.ensures.hears in
-    let enters = known_entry _ _ c.in_ok-entered.ensures.view c.in_ok-entered.ensures.entry c.in_ok-entered.ensures.informed c.in_ok-entered.ensures.told in
-    let made = newest_reply-made (g.R.Responder.reply_of c.args.site.now) c.enter.new.self c.in-Head.request c.is_last-last.result _ _ c.in_ok-entered.ensures.newest c.in_ok-entered.ensures.number in
-    let adds = subst (λ (w : List ℕ). Adds (g.L.Sink.held c.next_head.new.link) w (g.L.Sink.held c.answer.new.link)) made c.in_ok-answer.ensures.writes in
+    let enters = known_entry _ _ c.in_ok-entered.ensures.view c.in_ok-entered.ensures.entry
+    c.in_ok-entered.ensures.informed c.in_ok-entered.ensures.told in
+    let made = newest_reply-made (g.R.Responder.reply_of c.args.site.now) c.enter.new.self
+    c.in-Head.request c.is_last-last.result _ _ c.in_ok-entered.ensures.newest
+    c.in_ok-entered.ensures.number in
+    let adds = subst (λ (w : List ℕ). Adds (g.L.Sink.held c.next_head.new.link) w
+    (g.L.Sink.held c.answer.new.link)) made c.in_ok-answer.ensures.writes in
     rw c.answer.ensures.remaining
-    (Session-closed _ _ _ _ _ _ _ _ _ _ _ _ _ _ _ c.loop-answered.invariant.progress (omega arith) hears (c.next_head.ensures.end c.loop-answered.invariant.end)
-    enters c.in_ok-entered.ensures.later c.is_last-last.ensures (rw c.next_head.ensures.held at adds) c.if-request.true)
+    (Session-closed _ _ _ _ _ _ _ _ _ _ _ _ _ _ _ c.loop-answered.invariant.progress
+    (omega arith) hears (c.next_head.ensures.end c.loop-answered.invariant.end)
+    enters c.in_ok-entered.ensures.later c.is_last-last.ensures
+    (rw c.next_head.ensures.held at adds) c.if-request.true)
 
 pub loop-answered-init : goal.loop-answered-init
 loop-answered-init g c = record {
@@ -88,13 +115,18 @@ loop-answered-init g c = record {
 pub loop-answered-preserved : goal.loop-answered-preserved
 loop-answered-preserved g c =
     let hears = rw c.in-Head.is at c.in_ok-request.ensures.hears in
-    let enters = known_entry _ _ c.in_ok-entered.ensures.view c.in_ok-entered.ensures.entry c.in_ok-entered.ensures.informed c.in_ok-entered.ensures.told in
-    let made = newest_reply-made (g.R.Responder.reply_of c.args.site.now) c.enter.new.self c.in-Head.request c.is_last-last.result _ _ c.in_ok-entered.ensures.newest c.in_ok-entered.ensures.number in
-    let adds = subst (λ (w : List ℕ). Adds (g.L.Sink.held c.next_head.new.link) w (g.L.Sink.held c.answer.new.link)) made c.in_ok-answer.ensures.writes in
+    let enters = known_entry _ _ c.in_ok-entered.ensures.view c.in_ok-entered.ensures.entry
+    c.in_ok-entered.ensures.informed c.in_ok-entered.ensures.told in
+    let made = newest_reply-made (g.R.Responder.reply_of c.args.site.now) c.enter.new.self
+    c.in-Head.request c.is_last-last.result _ _ c.in_ok-entered.ensures.newest
+    c.in_ok-entered.ensures.number in
+    let adds = subst (λ (w : List ℕ). Adds (g.L.Sink.held c.next_head.new.link) w
+    (g.L.Sink.held c.answer.new.link)) made c.in_ok-answer.ensures.writes in
     record {
       progress = rw c.answer.ensures.remaining
           (Progress-more _ _ _ _ _ _ _ _ _ _ _ _ _ _ _ c.loop-answered.invariant.progress hears
-          enters c.in_ok-entered.ensures.later c.is_last-last.ensures (rw c.next_head.ensures.held at adds) c.if-request.false);
+          enters c.in_ok-entered.ensures.later c.is_last-last.ensures
+          (rw c.next_head.ensures.held at adds) c.if-request.false);
       end = rw c.answer.ensures.remaining (c.next_head.ensures.end c.loop-answered.invariant.end);
       read_faults = search rules;
       write_faults = search rules;
@@ -108,4 +140,5 @@ loop-answered-preserved g c =
 
 pub returns-clause-session : goal.returns-clause-session
 returns-clause-session g c =
-    Session-full _ _ _ _ _ _ _ _ _ c.loop-answered.invariant.progress (omega arith) c.loop-answered.invariant.end
+    Session-full _ _ _ _ _ _ _ _ _ c.loop-answered.invariant.progress
+    (omega arith) c.loop-answered.invariant.end

@@ -1,4 +1,5 @@
--- So many requests were answered, none of them closes, and the reader of heads has not been told more than is so.
+-- So many requests were answered, none of them closes, and the reader of heads has not been told
+-- more than is so.
 use Rattle.std.proofs.Common.{◌≡◌, ◌≤◌}
 use Rattle.publication.specs.View.{IsView, StartsWith}
 use Rattle.session.specs.Incoming.{KnowsEnd}
@@ -7,7 +8,9 @@ use Rattle.session.proofs.serve.answer_requests.Given as goal
 
 abbrev pub invariant-loop-answered : goal.invariant-loop-answered
 invariant-loop-answered g l = record {
-  progress : Progress (g.R.Responder.reply_of l.site) (g.L.Source.remaining l.initial.link) (g.L.Source.remaining l.link) (g.L.Sink.held l.initial.link) (g.L.Sink.held l.link) l.initial.reader l.reader l.heads.rest l.answered;
+  progress : Progress (g.R.Responder.reply_of l.site) (g.L.Source.remaining l.initial.link)
+      (g.L.Source.remaining l.link) (g.L.Sink.held l.initial.link) (g.L.Sink.held l.link)
+      l.initial.reader l.reader l.heads.rest l.answered;
   end : KnowsEnd (g.L.Source.remaining l.link) l.heads;
   read_faults : g.L.Source.read_faults l.link ≡ g.L.Source.read_faults l.initial.link;
   write_faults : g.L.Sink.write_faults l.link ≡ g.L.Sink.write_faults l.initial.link;

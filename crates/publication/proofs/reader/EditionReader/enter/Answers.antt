@@ -1,11 +1,11 @@
 -- What an entry gives, and what stays.
-use Rattle.std.proofs.Common.{◌≡◌, ◌≤◌, ◌⊎◌, ◌++◌, ◌∷◌, [], ap, subst, ◌∙◌, inr, length, true, OnOk, OnErr}
+use Rattle.std.proofs.Common.{◌≡◌, ◌⊎◌, ◌++◌, ◌∷◌, [], subst, ◌∙◌, inr, length, true}
 use Rattle.std.proofs.lemmas.Result.{IfOk-weaker}
 use Rattle.std.specs.Arc.{arc_value}
 use Rattle.left_right.specs.Sides.{view as sight}
 use Rattle.publication.specs.View.{StartsWith}
 use Rattle.publication.specs.Chronicle.{editions_of}
-use Rattle.publication.specs.Readers.{IsNoted, Notes, SeesMore, SeesNothing, view_by}
+use Rattle.publication.specs.Readers.{SeesMore, SeesNothing}
 use Rattle.publication.proofs.Reading.{view_holds, stayed, entered, informed, last, later, gains, number_is, newest, ok_of, if_of, err_of, on_ok_always, on_err_always}
 use Rattle.publication.proofs.reader.EditionReader.enter.Goals as goal
 
@@ -14,9 +14,12 @@ invariant_of-self g c =
     let before = sight c.self.inside.reader.place in
     let after = sight c.enter_informed-all.new.reader.place in
     let all = c.enter_informed-all.result.0 in
-    let step = err_of c.enter_informed-all.result.1 _ _ c.in_err-noted.was c.enter_informed-all.ensures.err in
-    stayed before after c.self.inside.seen c.self.inside.count c.self.inside.knowledge all c.self.invariant step.entries
-    (subst (λ token. SeesNothing before after token all ⊎ SeesMore before after token all) c.again-known.ensures step.sees)
+    let step = err_of c.enter_informed-all.result.1 _ _ c.in_err-noted.was
+    c.enter_informed-all.ensures.err in
+    stayed before after c.self.inside.seen c.self.inside.count c.self.inside.knowledge all
+    c.self.invariant step.entries
+    (subst (λ token. SeesNothing before after token all ⊎ SeesMore before after token all)
+    c.again-known.ensures step.sees)
 
 pub returns-in_err-noted-clause-view : goal.returns-in_err-noted-clause-view
 returns-in_err-noted-clause-view g c =
@@ -27,95 +30,152 @@ invariant_of-self-2 g c =
     let before = sight c.self.inside.reader.place in
     let after = sight c.enter_informed-all.new.reader.place in
     let all = c.enter_informed-all.result.0 in
-    let s = ok_of c.enter_informed-all.result.1 c.in_ok-noted.noted _ c.in_ok-noted.was c.enter_informed-all.ensures.ok in
-    let late = ok_of c.enter_informed-all.result.1 c.in_ok-noted.noted _ c.in_ok-noted.was c.enter_informed-all.ensures.late in
-    let noted = if_of c.enter_informed-all.result.1 c.in_ok-noted.noted _ c.in_ok-noted.was c.enter_informed-all.ensures.noted in
+    let s = ok_of c.enter_informed-all.result.1 c.in_ok-noted.noted _ c.in_ok-noted.was
+    c.enter_informed-all.ensures.ok in
+    let late = ok_of c.enter_informed-all.result.1 c.in_ok-noted.noted _ c.in_ok-noted.was
+    c.enter_informed-all.ensures.late in
+    let noted = if_of c.enter_informed-all.result.1 c.in_ok-noted.noted _ c.in_ok-noted.was
+    c.enter_informed-all.ensures.noted in
     let more = subst (λ token. SeesMore before after token all) c.again-known.ensures s.0 in
-    entered before after c.self.inside.seen c.self.inside.count c.self.inside.knowledge all c.in_ok-noted.noted.sighting.seen c.in_ok-noted.noted.sighting.count c.self.invariant more noted s.1
+    entered before after c.self.inside.seen c.self.inside.count c.self.inside.knowledge all
+    c.in_ok-noted.noted.sighting.seen c.in_ok-noted.noted.sighting.count c.self.invariant more
+    noted s.1
 
 pub returns-clause-number : goal.returns-clause-number
 returns-clause-number g c =
     let before = sight c.self.inside.reader.place in
     let after = sight c.enter_informed-all.new.reader.place in
     let all = c.enter_informed-all.result.0 in
-    let s = ok_of c.enter_informed-all.result.1 c.in_ok-noted.noted _ c.in_ok-noted.was c.enter_informed-all.ensures.ok in
-    let late = ok_of c.enter_informed-all.result.1 c.in_ok-noted.noted _ c.in_ok-noted.was c.enter_informed-all.ensures.late in
-    let noted = if_of c.enter_informed-all.result.1 c.in_ok-noted.noted _ c.in_ok-noted.was c.enter_informed-all.ensures.noted in
+    let s = ok_of c.enter_informed-all.result.1 c.in_ok-noted.noted _ c.in_ok-noted.was
+    c.enter_informed-all.ensures.ok in
+    let late = ok_of c.enter_informed-all.result.1 c.in_ok-noted.noted _ c.in_ok-noted.was
+    c.enter_informed-all.ensures.late in
+    let noted = if_of c.enter_informed-all.result.1 c.in_ok-noted.noted _ c.in_ok-noted.was
+    c.enter_informed-all.ensures.noted in
     let more = subst (λ token. SeesMore before after token all) c.again-known.ensures s.0 in
-    let gives = if_of c.enter_informed-all.result.1 c.in_ok-noted.noted _ c.in_ok-noted.was c.enter_informed-all.ensures.entered in
-    IfOk-weaker c.in_ok-noted.noted.entered _ _ (λ x h. h.0 ∙ number_is before after c.self.inside.seen c.self.inside.count c.self.inside.knowledge all c.in_ok-noted.noted.sighting.seen c.in_ok-noted.noted.sighting.count c.self.invariant more noted) gives
+    let gives = if_of c.enter_informed-all.result.1 c.in_ok-noted.noted _ c.in_ok-noted.was
+    c.enter_informed-all.ensures.entered in
+    IfOk-weaker c.in_ok-noted.noted.entered _ _ (λ x h. h.0
+    ∙ number_is before after c.self.inside.seen c.self.inside.count c.self.inside.knowledge all
+    c.in_ok-noted.noted.sighting.seen c.in_ok-noted.noted.sighting.count c.self.invariant more
+    noted) gives
 
 pub returns-clause-newest : goal.returns-clause-newest
 returns-clause-newest g c =
     let before = sight c.self.inside.reader.place in
     let after = sight c.enter_informed-all.new.reader.place in
     let all = c.enter_informed-all.result.0 in
-    let s = ok_of c.enter_informed-all.result.1 c.in_ok-noted.noted _ c.in_ok-noted.was c.enter_informed-all.ensures.ok in
-    let late = ok_of c.enter_informed-all.result.1 c.in_ok-noted.noted _ c.in_ok-noted.was c.enter_informed-all.ensures.late in
-    let noted = if_of c.enter_informed-all.result.1 c.in_ok-noted.noted _ c.in_ok-noted.was c.enter_informed-all.ensures.noted in
+    let s = ok_of c.enter_informed-all.result.1 c.in_ok-noted.noted _ c.in_ok-noted.was
+    c.enter_informed-all.ensures.ok in
+    let late = ok_of c.enter_informed-all.result.1 c.in_ok-noted.noted _ c.in_ok-noted.was
+    c.enter_informed-all.ensures.late in
+    let noted = if_of c.enter_informed-all.result.1 c.in_ok-noted.noted _ c.in_ok-noted.was
+    c.enter_informed-all.ensures.noted in
     let more = subst (λ token. SeesMore before after token all) c.again-known.ensures s.0 in
-    let gives = if_of c.enter_informed-all.result.1 c.in_ok-noted.noted _ c.in_ok-noted.was c.enter_informed-all.ensures.entered in
-    IfOk-weaker c.in_ok-noted.noted.entered _ _ (λ x h. newest before after c.self.inside.seen c.self.inside.count c.self.inside.knowledge all c.in_ok-noted.noted.sighting.seen c.in_ok-noted.noted.sighting.count c.self.invariant more noted (arc_value x.edition) h.1) gives
+    let gives = if_of c.enter_informed-all.result.1 c.in_ok-noted.noted _ c.in_ok-noted.was
+    c.enter_informed-all.ensures.entered in
+    IfOk-weaker c.in_ok-noted.noted.entered _ _ (λ x h. newest before after c.self.inside.seen
+    c.self.inside.count c.self.inside.knowledge all c.in_ok-noted.noted.sighting.seen
+    c.in_ok-noted.noted.sighting.count c.self.invariant more noted (arc_value x.edition) h.1)
+    gives
 
 pub returns-clause-entry : goal.returns-clause-entry
 returns-clause-entry g c =
     let before = sight c.self.inside.reader.place in
     let after = sight c.enter_informed-all.new.reader.place in
     let all = c.enter_informed-all.result.0 in
-    let s = ok_of c.enter_informed-all.result.1 c.in_ok-noted.noted _ c.in_ok-noted.was c.enter_informed-all.ensures.ok in
-    let late = ok_of c.enter_informed-all.result.1 c.in_ok-noted.noted _ c.in_ok-noted.was c.enter_informed-all.ensures.late in
-    let noted = if_of c.enter_informed-all.result.1 c.in_ok-noted.noted _ c.in_ok-noted.was c.enter_informed-all.ensures.noted in
+    let s = ok_of c.enter_informed-all.result.1 c.in_ok-noted.noted _ c.in_ok-noted.was
+    c.enter_informed-all.ensures.ok in
+    let late = ok_of c.enter_informed-all.result.1 c.in_ok-noted.noted _ c.in_ok-noted.was
+    c.enter_informed-all.ensures.late in
+    let noted = if_of c.enter_informed-all.result.1 c.in_ok-noted.noted _ c.in_ok-noted.was
+    c.enter_informed-all.ensures.noted in
     let more = subst (λ token. SeesMore before after token all) c.again-known.ensures s.0 in
-    on_ok_always c.in_ok-noted.noted.entered _ (subst (λ view. after.entries ≡ view.entries ++ length (editions_of c.in_ok-noted.noted.sighting.seen.log) ∷ []) c.self.view_is
-    (gains before after c.self.inside.seen c.self.inside.count c.self.inside.knowledge all c.in_ok-noted.noted.sighting.seen c.in_ok-noted.noted.sighting.count c.self.invariant more noted s.1))
+    on_ok_always c.in_ok-noted.noted.entered _
+    (subst (λ view. after.entries ≡ view.entries ++ length
+    (editions_of c.in_ok-noted.noted.sighting.seen.log) ∷ []) c.self.view_is
+    (gains before after c.self.inside.seen c.self.inside.count c.self.inside.knowledge all
+    c.in_ok-noted.noted.sighting.seen c.in_ok-noted.noted.sighting.count c.self.invariant more
+    noted s.1))
 
 pub returns-clause-informed : goal.returns-clause-informed
 returns-clause-informed g c =
     let before = sight c.self.inside.reader.place in
     let after = sight c.enter_informed-all.new.reader.place in
     let all = c.enter_informed-all.result.0 in
-    let s = ok_of c.enter_informed-all.result.1 c.in_ok-noted.noted _ c.in_ok-noted.was c.enter_informed-all.ensures.ok in
-    let late = ok_of c.enter_informed-all.result.1 c.in_ok-noted.noted _ c.in_ok-noted.was c.enter_informed-all.ensures.late in
-    let noted = if_of c.enter_informed-all.result.1 c.in_ok-noted.noted _ c.in_ok-noted.was c.enter_informed-all.ensures.noted in
+    let s = ok_of c.enter_informed-all.result.1 c.in_ok-noted.noted _ c.in_ok-noted.was
+    c.enter_informed-all.ensures.ok in
+    let late = ok_of c.enter_informed-all.result.1 c.in_ok-noted.noted _ c.in_ok-noted.was
+    c.enter_informed-all.ensures.late in
+    let noted = if_of c.enter_informed-all.result.1 c.in_ok-noted.noted _ c.in_ok-noted.was
+    c.enter_informed-all.ensures.noted in
     let more = subst (λ token. SeesMore before after token all) c.again-known.ensures s.0 in
-    on_ok_always c.in_ok-noted.noted.entered _ (subst (λ view. StartsWith (editions_of c.in_ok-noted.noted.sighting.seen.log) view.told) c.self.view_is
-    (informed before after c.self.inside.seen c.self.inside.count c.self.inside.knowledge all c.in_ok-noted.noted.sighting.seen c.in_ok-noted.noted.sighting.count c.self.invariant more noted late))
+    on_ok_always c.in_ok-noted.noted.entered _
+    (subst (λ view. StartsWith (editions_of c.in_ok-noted.noted.sighting.seen.log) view.told)
+    c.self.view_is
+    (informed before after c.self.inside.seen c.self.inside.count c.self.inside.knowledge all
+    c.in_ok-noted.noted.sighting.seen c.in_ok-noted.noted.sighting.count c.self.invariant more
+    noted late))
 
 pub returns-clause-last : goal.returns-clause-last
 returns-clause-last g c =
     let before = sight c.self.inside.reader.place in
     let after = sight c.enter_informed-all.new.reader.place in
     let all = c.enter_informed-all.result.0 in
-    let s = ok_of c.enter_informed-all.result.1 c.in_ok-noted.noted _ c.in_ok-noted.was c.enter_informed-all.ensures.ok in
-    let late = ok_of c.enter_informed-all.result.1 c.in_ok-noted.noted _ c.in_ok-noted.was c.enter_informed-all.ensures.late in
-    let noted = if_of c.enter_informed-all.result.1 c.in_ok-noted.noted _ c.in_ok-noted.was c.enter_informed-all.ensures.noted in
+    let s = ok_of c.enter_informed-all.result.1 c.in_ok-noted.noted _ c.in_ok-noted.was
+    c.enter_informed-all.ensures.ok in
+    let late = ok_of c.enter_informed-all.result.1 c.in_ok-noted.noted _ c.in_ok-noted.was
+    c.enter_informed-all.ensures.late in
+    let noted = if_of c.enter_informed-all.result.1 c.in_ok-noted.noted _ c.in_ok-noted.was
+    c.enter_informed-all.ensures.noted in
     let more = subst (λ token. SeesMore before after token all) c.again-known.ensures s.0 in
-    on_ok_always c.in_ok-noted.noted.entered _ (subst (λ view. view.closed ≡ true → editions_of c.in_ok-noted.noted.sighting.seen.log ≡ view.told) c.self.view_is
-    (last before after c.self.inside.seen c.self.inside.count c.self.inside.knowledge all c.in_ok-noted.noted.sighting.seen c.in_ok-noted.noted.sighting.count c.self.invariant more noted late))
+    on_ok_always c.in_ok-noted.noted.entered _ (subst (λ view. view.closed ≡ true
+    → editions_of c.in_ok-noted.noted.sighting.seen.log ≡ view.told) c.self.view_is
+    (last before after c.self.inside.seen c.self.inside.count c.self.inside.knowledge all
+    c.in_ok-noted.noted.sighting.seen c.in_ok-noted.noted.sighting.count c.self.invariant more
+    noted late))
 
 pub returns-clause-refused : goal.returns-clause-refused
 returns-clause-refused g c =
     let before = sight c.self.inside.reader.place in
     let after = sight c.enter_informed-all.new.reader.place in
     let all = c.enter_informed-all.result.0 in
-    let s = ok_of c.enter_informed-all.result.1 c.in_ok-noted.noted _ c.in_ok-noted.was c.enter_informed-all.ensures.ok in
-    let late = ok_of c.enter_informed-all.result.1 c.in_ok-noted.noted _ c.in_ok-noted.was c.enter_informed-all.ensures.late in
-    let noted = if_of c.enter_informed-all.result.1 c.in_ok-noted.noted _ c.in_ok-noted.was c.enter_informed-all.ensures.noted in
+    let s = ok_of c.enter_informed-all.result.1 c.in_ok-noted.noted _ c.in_ok-noted.was
+    c.enter_informed-all.ensures.ok in
+    let late = ok_of c.enter_informed-all.result.1 c.in_ok-noted.noted _ c.in_ok-noted.was
+    c.enter_informed-all.ensures.late in
+    let noted = if_of c.enter_informed-all.result.1 c.in_ok-noted.noted _ c.in_ok-noted.was
+    c.enter_informed-all.ensures.noted in
     let more = subst (λ token. SeesMore before after token all) c.again-known.ensures s.0 in
-    on_err_always c.in_ok-noted.noted.entered _ (inr (subst (λ view. (after.entries ≡ view.entries ++ length (editions_of c.in_ok-noted.noted.sighting.seen.log) ∷ []) × StartsWith (editions_of c.in_ok-noted.noted.sighting.seen.log) view.told) c.self.view_is
-    (gains before after c.self.inside.seen c.self.inside.count c.self.inside.knowledge all c.in_ok-noted.noted.sighting.seen c.in_ok-noted.noted.sighting.count c.self.invariant more noted s.1, informed before after c.self.inside.seen c.self.inside.count c.self.inside.knowledge all c.in_ok-noted.noted.sighting.seen c.in_ok-noted.noted.sighting.count c.self.invariant more noted late)))
+    on_err_always c.in_ok-noted.noted.entered _
+    (inr (subst (λ view. (after.entries ≡ view.entries ++ length
+    (editions_of c.in_ok-noted.noted.sighting.seen.log) ∷ []) × StartsWith
+    (editions_of c.in_ok-noted.noted.sighting.seen.log) view.told) c.self.view_is (
+      gains before after c.self.inside.seen c.self.inside.count c.self.inside.knowledge all
+          c.in_ok-noted.noted.sighting.seen c.in_ok-noted.noted.sighting.count c.self.invariant more
+          noted s.1,
+      informed before after c.self.inside.seen c.self.inside.count
+          c.self.inside.knowledge all c.in_ok-noted.noted.sighting.seen
+          c.in_ok-noted.noted.sighting.count c.self.invariant more noted late,
+    )))
 
 pub returns-clause-later : goal.returns-clause-later
 returns-clause-later g c =
     let before = sight c.self.inside.reader.place in
     let after = sight c.enter_informed-all.new.reader.place in
     let all = c.enter_informed-all.result.0 in
-    let s = ok_of c.enter_informed-all.result.1 c.in_ok-noted.noted _ c.in_ok-noted.was c.enter_informed-all.ensures.ok in
-    let late = ok_of c.enter_informed-all.result.1 c.in_ok-noted.noted _ c.in_ok-noted.was c.enter_informed-all.ensures.late in
-    let noted = if_of c.enter_informed-all.result.1 c.in_ok-noted.noted _ c.in_ok-noted.was c.enter_informed-all.ensures.noted in
+    let s = ok_of c.enter_informed-all.result.1 c.in_ok-noted.noted _ c.in_ok-noted.was
+    c.enter_informed-all.ensures.ok in
+    let late = ok_of c.enter_informed-all.result.1 c.in_ok-noted.noted _ c.in_ok-noted.was
+    c.enter_informed-all.ensures.late in
+    let noted = if_of c.enter_informed-all.result.1 c.in_ok-noted.noted _ c.in_ok-noted.was
+    c.enter_informed-all.ensures.noted in
     let more = subst (λ token. SeesMore before after token all) c.again-known.ensures s.0 in
-    subst (λ view. StartsWith (editions_of c.in_ok-noted.noted.sighting.seen.log) view.seen) c.self.view_is
-    (later before after c.self.inside.seen c.self.inside.count c.self.inside.knowledge all c.in_ok-noted.noted.sighting.seen c.in_ok-noted.noted.sighting.count c.self.invariant more noted)
+    subst (λ view. StartsWith (editions_of c.in_ok-noted.noted.sighting.seen.log) view.seen)
+    c.self.view_is
+    (later before after c.self.inside.seen c.self.inside.count c.self.inside.knowledge all
+    c.in_ok-noted.noted.sighting.seen c.in_ok-noted.noted.sighting.count c.self.invariant more
+    noted)
 
 pub returns-clause-view : goal.returns-clause-view
 returns-clause-view g c =

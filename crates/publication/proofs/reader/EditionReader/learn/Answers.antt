@@ -9,17 +9,20 @@ use Rattle.publication.proofs.reader.EditionReader.learn.Goals as goal
 
 pub returns-clause-told : goal.returns-clause-told
 returns-clause-told g c =
-    subst (λ history. StartsWith (editions_of c.joined.result.told.log) history.editions) c.told.view_is (editions_start _ _ c.joined.ensures.other)
+    subst (λ history. StartsWith (editions_of c.joined.result.told.log) history.editions)
+    c.told.view_is (editions_start _ _ c.joined.ensures.other)
 
 pub returns-clause-told_before : goal.returns-clause-told_before
 returns-clause-told_before g c =
-    subst (λ view. StartsWith (editions_of c.joined.result.told.log) view.told) c.self.view_is (editions_start _ _ c.joined.ensures.mine)
+    subst (λ view. StartsWith (editions_of c.joined.result.told.log) view.told) c.self.view_is
+    (editions_start _ _ c.joined.ensures.mine)
 
 pub returns-clause-view : goal.returns-clause-view
 returns-clause-view g c =
     let is = c.self.invariant in
     let origin = ap (λ s. s.book) c.joined.ensures.origin in
-    view_holds (sight c.self.inside.reader.place) c.self.inside.seen c.self.inside.count c.joined.result (record {
+    view_holds (sight c.self.inside.reader.place) c.self.inside.seen c.self.inside.count
+    c.joined.result (record {
       told = c.joined.ensures.told;
       opened = is.opened;
       book = is.book ∙ sym origin;

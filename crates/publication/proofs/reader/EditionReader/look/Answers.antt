@@ -3,7 +3,7 @@ use Rattle.std.proofs.Common.{◌≡◌, ◌⊎◌, ◌++◌, ◌∷◌, [], sub
 use Rattle.left_right.specs.Sides.{view as sight}
 use Rattle.publication.specs.View.{StartsWith}
 use Rattle.publication.specs.Chronicle.{editions_of}
-use Rattle.publication.specs.Readers.{IsNoted, SeesMore, SeesNothing}
+use Rattle.publication.specs.Readers.{SeesMore, SeesNothing}
 use Rattle.publication.proofs.Reading.{view_holds, stayed, looked, informed, last, later, gains_look, ok_of, if_of, err_of}
 use Rattle.publication.proofs.reader.EditionReader.look.Goals as goal
 
@@ -12,9 +12,12 @@ invariant_of-self g c =
     let before = sight c.self.inside.reader.place in
     let after = sight c.look_informed-all.new.reader.place in
     let all = c.look_informed-all.result.0 in
-    let step = err_of c.look_informed-all.result.1 _ _ c.in_err-sighting.was c.look_informed-all.ensures.err in
-    stayed before after c.self.inside.seen c.self.inside.count c.self.inside.knowledge all c.self.invariant step.entries
-    (subst (λ token. SeesNothing before after token all ⊎ SeesMore before after token all) c.again-known.ensures step.sees)
+    let step = err_of c.look_informed-all.result.1 _ _ c.in_err-sighting.was
+    c.look_informed-all.ensures.err in
+    stayed before after c.self.inside.seen c.self.inside.count c.self.inside.knowledge all
+    c.self.invariant step.entries
+    (subst (λ token. SeesNothing before after token all ⊎ SeesMore before after token all)
+    c.again-known.ensures step.sees)
 
 pub returns-in_err-sighting-clause-view : goal.returns-in_err-sighting-clause-view
 returns-in_err-sighting-clause-view g c =
@@ -25,56 +28,81 @@ invariant_of-self-2 g c =
     let before = sight c.self.inside.reader.place in
     let after = sight c.look_informed-all.new.reader.place in
     let all = c.look_informed-all.result.0 in
-    let s = ok_of c.look_informed-all.result.1 c.in_ok-sighting.sighting _ c.in_ok-sighting.was c.look_informed-all.ensures.ok in
-    let noted = if_of c.look_informed-all.result.1 c.in_ok-sighting.sighting _ c.in_ok-sighting.was c.look_informed-all.ensures.seen in
+    let s = ok_of c.look_informed-all.result.1 c.in_ok-sighting.sighting _ c.in_ok-sighting.was
+    c.look_informed-all.ensures.ok in
+    let noted = if_of c.look_informed-all.result.1 c.in_ok-sighting.sighting _ c.in_ok-sighting.was
+    c.look_informed-all.ensures.seen in
     let more = subst (λ token. SeesMore before after token all) c.again-known.ensures s.0 in
-    looked before after c.self.inside.seen c.self.inside.count c.self.inside.knowledge all c.in_ok-sighting.sighting.seen c.in_ok-sighting.sighting.count c.self.invariant more noted c.look_informed-all.ensures.entries
+    looked before after c.self.inside.seen c.self.inside.count c.self.inside.knowledge all
+    c.in_ok-sighting.sighting.seen c.in_ok-sighting.sighting.count c.self.invariant more noted
+    c.look_informed-all.ensures.entries
 
 pub returns-clause-look : goal.returns-clause-look
 returns-clause-look g c =
     let before = sight c.self.inside.reader.place in
     let after = sight c.look_informed-all.new.reader.place in
     let all = c.look_informed-all.result.0 in
-    let s = ok_of c.look_informed-all.result.1 c.in_ok-sighting.sighting _ c.in_ok-sighting.was c.look_informed-all.ensures.ok in
-    let noted = if_of c.look_informed-all.result.1 c.in_ok-sighting.sighting _ c.in_ok-sighting.was c.look_informed-all.ensures.seen in
+    let s = ok_of c.look_informed-all.result.1 c.in_ok-sighting.sighting _ c.in_ok-sighting.was
+    c.look_informed-all.ensures.ok in
+    let noted = if_of c.look_informed-all.result.1 c.in_ok-sighting.sighting _ c.in_ok-sighting.was
+    c.look_informed-all.ensures.seen in
     let more = subst (λ token. SeesMore before after token all) c.again-known.ensures s.0 in
-    subst (λ view. after.looks ≡ view.looks ++ length (editions_of c.in_ok-sighting.sighting.seen.log) ∷ []) c.self.view_is
-    (gains_look before after c.self.inside.seen c.self.inside.count c.self.inside.knowledge all c.in_ok-sighting.sighting.seen c.in_ok-sighting.sighting.count c.self.invariant more noted s.1)
+    subst (λ view. after.looks ≡ view.looks ++ length
+    (editions_of c.in_ok-sighting.sighting.seen.log) ∷ []) c.self.view_is
+    (gains_look before after c.self.inside.seen c.self.inside.count c.self.inside.knowledge all
+    c.in_ok-sighting.sighting.seen c.in_ok-sighting.sighting.count c.self.invariant more noted
+    s.1)
 
 pub returns-clause-informed : goal.returns-clause-informed
 returns-clause-informed g c =
     let before = sight c.self.inside.reader.place in
     let after = sight c.look_informed-all.new.reader.place in
     let all = c.look_informed-all.result.0 in
-    let s = ok_of c.look_informed-all.result.1 c.in_ok-sighting.sighting _ c.in_ok-sighting.was c.look_informed-all.ensures.ok in
-    let late = ok_of c.look_informed-all.result.1 c.in_ok-sighting.sighting _ c.in_ok-sighting.was c.look_informed-all.ensures.late in
-    let noted = if_of c.look_informed-all.result.1 c.in_ok-sighting.sighting _ c.in_ok-sighting.was c.look_informed-all.ensures.seen in
+    let s = ok_of c.look_informed-all.result.1 c.in_ok-sighting.sighting _ c.in_ok-sighting.was
+    c.look_informed-all.ensures.ok in
+    let late = ok_of c.look_informed-all.result.1 c.in_ok-sighting.sighting _ c.in_ok-sighting.was
+    c.look_informed-all.ensures.late in
+    let noted = if_of c.look_informed-all.result.1 c.in_ok-sighting.sighting _ c.in_ok-sighting.was
+    c.look_informed-all.ensures.seen in
     let more = subst (λ token. SeesMore before after token all) c.again-known.ensures s.0 in
-    subst (λ view. StartsWith (editions_of c.in_ok-sighting.sighting.seen.log) view.told) c.self.view_is
-    (informed before after c.self.inside.seen c.self.inside.count c.self.inside.knowledge all c.in_ok-sighting.sighting.seen c.in_ok-sighting.sighting.count c.self.invariant more noted late)
+    subst (λ view. StartsWith (editions_of c.in_ok-sighting.sighting.seen.log) view.told)
+    c.self.view_is
+    (informed before after c.self.inside.seen c.self.inside.count c.self.inside.knowledge all
+    c.in_ok-sighting.sighting.seen c.in_ok-sighting.sighting.count c.self.invariant more noted
+    late)
 
 pub returns-clause-last : goal.returns-clause-last
 returns-clause-last g c =
     let before = sight c.self.inside.reader.place in
     let after = sight c.look_informed-all.new.reader.place in
     let all = c.look_informed-all.result.0 in
-    let s = ok_of c.look_informed-all.result.1 c.in_ok-sighting.sighting _ c.in_ok-sighting.was c.look_informed-all.ensures.ok in
-    let late = ok_of c.look_informed-all.result.1 c.in_ok-sighting.sighting _ c.in_ok-sighting.was c.look_informed-all.ensures.late in
-    let noted = if_of c.look_informed-all.result.1 c.in_ok-sighting.sighting _ c.in_ok-sighting.was c.look_informed-all.ensures.seen in
+    let s = ok_of c.look_informed-all.result.1 c.in_ok-sighting.sighting _ c.in_ok-sighting.was
+    c.look_informed-all.ensures.ok in
+    let late = ok_of c.look_informed-all.result.1 c.in_ok-sighting.sighting _ c.in_ok-sighting.was
+    c.look_informed-all.ensures.late in
+    let noted = if_of c.look_informed-all.result.1 c.in_ok-sighting.sighting _ c.in_ok-sighting.was
+    c.look_informed-all.ensures.seen in
     let more = subst (λ token. SeesMore before after token all) c.again-known.ensures s.0 in
-    subst (λ view. view.closed ≡ true → editions_of c.in_ok-sighting.sighting.seen.log ≡ view.told) c.self.view_is
-    (last before after c.self.inside.seen c.self.inside.count c.self.inside.knowledge all c.in_ok-sighting.sighting.seen c.in_ok-sighting.sighting.count c.self.invariant more noted late)
+    subst (λ view. view.closed ≡ true → editions_of c.in_ok-sighting.sighting.seen.log ≡ view.told)
+    c.self.view_is
+    (last before after c.self.inside.seen c.self.inside.count c.self.inside.knowledge all
+    c.in_ok-sighting.sighting.seen c.in_ok-sighting.sighting.count c.self.invariant more noted
+    late)
 
 pub returns-clause-later : goal.returns-clause-later
 returns-clause-later g c =
     let before = sight c.self.inside.reader.place in
     let after = sight c.look_informed-all.new.reader.place in
     let all = c.look_informed-all.result.0 in
-    let s = ok_of c.look_informed-all.result.1 c.in_ok-sighting.sighting _ c.in_ok-sighting.was c.look_informed-all.ensures.ok in
-    let noted = if_of c.look_informed-all.result.1 c.in_ok-sighting.sighting _ c.in_ok-sighting.was c.look_informed-all.ensures.seen in
+    let s = ok_of c.look_informed-all.result.1 c.in_ok-sighting.sighting _ c.in_ok-sighting.was
+    c.look_informed-all.ensures.ok in
+    let noted = if_of c.look_informed-all.result.1 c.in_ok-sighting.sighting _ c.in_ok-sighting.was
+    c.look_informed-all.ensures.seen in
     let more = subst (λ token. SeesMore before after token all) c.again-known.ensures s.0 in
-    subst (λ view. StartsWith (editions_of c.in_ok-sighting.sighting.seen.log) view.seen) c.self.view_is
-    (later before after c.self.inside.seen c.self.inside.count c.self.inside.knowledge all c.in_ok-sighting.sighting.seen c.in_ok-sighting.sighting.count c.self.invariant more noted)
+    subst (λ view. StartsWith (editions_of c.in_ok-sighting.sighting.seen.log) view.seen)
+    c.self.view_is
+    (later before after c.self.inside.seen c.self.inside.count c.self.inside.knowledge all
+    c.in_ok-sighting.sighting.seen c.in_ok-sighting.sighting.count c.self.invariant more noted)
 
 pub returns-clause-view : goal.returns-clause-view
 returns-clause-view g c =

@@ -12,9 +12,12 @@ use Rattle.publication.proofs.reader.EditionReader.shares_history.Goals as goal
 pub returns : goal.returns
 returns g c =
     let all = c.learn.new.self.log in
-    let mine = subst (λ (log : List _). IsPrefix log all) (ap (λ token. token.log) c.again-all.ensures) c.learn.ensures.2 in
+    let mine = subst (λ (log : List _). IsPrefix log all)
+    (ap (λ token. token.log) c.again-all.ensures) c.learn.ensures.2 in
     let theirs = c.learn.ensures.3 in
-    subst (λ view. ShareHistory view c.args.other.now) c.self.view_is (subst (λ view. ShareHistory (view_by (sight c.self.inside.reader.place) c.self.inside.seen c.self.inside.knowledge) view) c.other.view_is (record {
+    subst (λ view. ShareHistory view c.args.other.now) c.self.view_is
+    (subst (λ view. ShareHistory (view_by (sight c.self.inside.reader.place) c.self.inside.seen
+    c.self.inside.knowledge) view) c.other.view_is (record {
       history = editions_of all;
       one_seen = editions_begin _ all (prefix_then _ _ _ c.self.invariant.begins mine);
       one_told = editions_begin _ all (prefix_then _ _ _ c.self.invariant.told.begins mine);
