@@ -1,17 +1,15 @@
 -- The packages of the sources that were read so far, one source at a time.
-use Rattle.std.proofs.Common.{◌≡◌, ℕ, zero, suc, ◌+◌, ◌-◌, ◌<◌, ◌≤◌, ◌⊎◌, Bool, true, false, cond, List, [], ◌∷◌, ◌++◌, length, get_or, map, Option, All, string_bytes, refl, sym, ap, ◌∙◌, subst, inl, inr, ⊎_elim, arith}
-use Rattle.std.specs.Prelude.{◌↔◌, Contains, IsTrue}
+use Rattle.std.proofs.Common.{◌≡◌, ℕ, zero, suc, ◌+◌, ◌-◌, ◌<◌, ◌⊎◌, true, List, [], ◌∷◌, ◌++◌, length, get_or, map, Option, All, string_bytes, refl, sym, ap, ◌∙◌, subst, inl, inr, ⊎_elim, arith}
+use Rattle.std.specs.Prelude.{◌↔◌, Contains}
 use Rattle.std.specs.BTreeSet.{BTreeSet, IsOrdered, insert_key}
 use Rattle.std.specs.List.Sorted.{IsStrictlySortedBy}
-use Rattle.std.specs.Ordering.{is_eq, match_ordering, nat_cmp}
-use Rattle.std.specs.Cmp.Lexicographic.{slice_cmp}
+use Rattle.std.specs.Ordering.{is_eq, match_ordering}
 use Rattle.std.specs.declared.cmp.Ordering.{Ordering}
 use Rattle.std.specs.declared.cmp.Ordering.TheVariants.{Less, Equal, Greater}
 use Rattle.std.specs.String.{string_cmp}
 use Rattle.std.specs.declared.string.String.{String}
 use Rattle.std.specs.Str.{bytes_eq}
-use Rattle.std.proofs.lemmas.List.{map-append}
-use Rattle.std.proofs.lemmas.List.Elements.{All-nil, All-append, Contains-append_left, Contains-push, Contains-push_cases}
+use Rattle.std.proofs.lemmas.List.Elements.{Contains-append_left, Contains-push, Contains-push_cases}
 use Rattle.std.proofs.lemmas.Map.Text.{is_eq-slice_cmp}
 use Rattle.std.proofs.lemmas.Slice.Eq.{bytes_eq-Decides}
 use Rattle.tree_io.specs.declared.tree.Entry.{Entry}
@@ -21,7 +19,7 @@ use Rattle.tree_io.specs.Entries.{IsReadSoFar}
 use Rattle.tree_io.specs.Scans.{IsListed}
 use Rattle.tree_io.specs.Sources.{Contents, Sources}
 use Rattle.tree_io.proofs.Laws.{IsReadSoFar-append, IsReadSoFar-nothing, IsRising-strings, IsScanned-read}
-use Rattle.godoc.specs.Packages.{ArePackages, HasPackageClause, HasPackage, NamesPackage, package_path}
+use Rattle.godoc.specs.Packages.{ArePackages, HasPackageClause, HasPackage, package_path}
 use Rattle.godoc.specs.Serving.{IsEdition}
 use Rattle.godoc.specs.Steps.{IsGathered}
 

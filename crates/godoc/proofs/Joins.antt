@@ -1,5 +1,5 @@
 -- Texts that were appended one after another.
-use Rattle.std.proofs.Common.{◌≡◌, ℕ, List, ◌++◌, sym, ap, ◌∙◌, append_assoc}
+use Rattle.std.proofs.Common.{◌≡◌, ℕ, List, ◌++◌, ap, ◌∙◌, append_assoc}
 
 pub joined_three : (old a b c one two new : List ℕ) → one ≡ old ++ a → two ≡ one ++ b
     → new ≡ two ++ c

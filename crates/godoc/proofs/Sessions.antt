@@ -1,6 +1,6 @@
 -- A session over a history of one edition.
-use Rattle.std.proofs.Common.{◌≡◌, ◌≢◌, ℕ, zero, suc, ◌-◌, ◌≤◌, ◌⊎◌, List, [], ◌∷◌, ◌++◌, length, take, replicate, Option, Some, None, All, refl, sym, ap, ◌∙◌, subst, inl, inr, ⊎_elim, arith}
-use Rattle.std.specs.Prelude.{IsSome, slice_get}
+use Rattle.std.proofs.Common.{◌≡◌, ◌≢◌, ℕ, zero, suc, ◌-◌, ◌⊎◌, List, [], ◌∷◌, ◌++◌, length, take, replicate, Option, All, refl, sym, ap, ◌∙◌, subst, inl, inr, ⊎_elim}
+use Rattle.std.specs.Prelude.{IsSome}
 use Rattle.std.specs.List.{concat}
 use Rattle.std.proofs.lemmas.Bool.{false≢true}
 use Rattle.std.proofs.lemmas.List.Elements.{All-head, All-tail, All-weaker}
@@ -10,7 +10,7 @@ use Rattle.publication.specs.View.{View, StartsWith, newcomer}
 use Rattle.session.specs.declared.session_end.SessionEnd.{SessionEnd}
 use Rattle.session.specs.declared.session_end.SessionEnd.TheVariants as ends
 use Rattle.session.specs.Session.{IsAnswered, Session}
-use Rattle.session.specs.Text.{Replier, answerable, edition_at, refusal, replies_from}
+use Rattle.session.specs.Text.{Replier, answerable, edition_at, refusal}
 use Rattle.session.proofs.SessionLaws.{Session-unbegun, edition_at-grown, replies-grown}
 use Rattle.godoc.specs.Replies.{reply_of}
 use Rattle.godoc.specs.Serving.{Serves}

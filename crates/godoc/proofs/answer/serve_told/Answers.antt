@@ -1,5 +1,5 @@
 -- The reader sees nothing beyond what it was told for the last time.
-use Rattle.std.proofs.Common.{◌≡◌, Bool, true, false, ◌||◌, ◌∙◌, ap, refl, subst, [], ◌∷◌}
+use Rattle.std.proofs.Common.{◌≡◌, Bool, true, false, ◌||◌, ◌∙◌, refl, subst}
 use Rattle.publication.specs.View.{StartsWith}
 use Rattle.godoc.proofs.Sessions.{Serves-session}
 use Rattle.godoc.proofs.answer.serve_told.Goals as goal

@@ -1,4 +1,4 @@
-use Rattle.std.proofs.Common.{◌∙◌, ap, sym, refl, subst, map, string_bytes, arith, take}
+use Rattle.std.proofs.Common.{◌∙◌, ap, sym, refl, subst, map, string_bytes, arith}
 use Rattle.std.proofs.lemmas.Bool.{false≢true}
 use Rattle.std.proofs.lemmas.List.{take_more}
 use Rattle.std.specs.BTreeSet.{IsOrdered}

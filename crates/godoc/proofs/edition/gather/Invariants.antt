@@ -1,5 +1,4 @@
 use Rattle.std.proofs.Common.{◌≡◌, ◌≤◌, map, take, string_bytes}
-use Rattle.std.specs.BTreeSet.{IsOrdered}
 use Rattle.godoc.specs.Steps.{IsGathered}
 use Rattle.godoc.proofs.edition.gather.Given as goal
 

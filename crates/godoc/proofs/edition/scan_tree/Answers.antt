@@ -1,5 +1,4 @@
-use Rattle.std.proofs.Common.{◌∙◌, ap, map, string_bytes, subst, sym}
-use Rattle.godoc.specs.Packages.{ArePackages}
+use Rattle.std.proofs.Common.{◌∙◌, map, string_bytes, sym}
 use Rattle.tree_io.proofs.Laws.{listed_are_known}
 use Rattle.godoc.proofs.Gathering.{IsEdition-gathered}
 use Rattle.godoc.proofs.edition.scan_tree.Goals as goal

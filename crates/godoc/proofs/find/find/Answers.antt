@@ -1,4 +1,4 @@
-use Rattle.std.proofs.Common.{◌≡◌, sym, ◌∙◌, inl, inr}
+use Rattle.std.proofs.Common.{sym, ◌∙◌, inr}
 use Rattle.tree_io.proofs.Laws.{listed_are_known}
 use Rattle.godoc.proofs.Outcomes.{OnOk-weaker, OnErr-part, WritesFound-after, WritesFront-after}
 use Rattle.godoc.proofs.find.find.Goals as goal

@@ -1,5 +1,5 @@
 -- What was read was fed, and nothing is decided yet.
-use Rattle.std.proofs.Common.{◌≡◌, ◌≤◌}
+use Rattle.std.proofs.Common.{◌≡◌}
 use Rattle.session.specs.Incoming.{KnowsEnd}
 use Rattle.session.proofs.IncomingLemmas.{HasHeard, remaining}
 use Rattle.session.proofs.incoming.next_head.Given as goal

@@ -1,6 +1,6 @@
 -- So many requests were answered, none of them closes, and the reader of heads has not been told
 -- more than is so.
-use Rattle.std.proofs.Common.{◌≡◌, ◌≤◌}
+use Rattle.std.proofs.Common.{◌≡◌}
 use Rattle.publication.specs.View.{IsView, StartsWith}
 use Rattle.session.specs.Incoming.{KnowsEnd}
 use Rattle.session.proofs.Progress.{Progress}
