@@ -44,6 +44,7 @@ fn are_letters_or_digits(text: &str) -> bool
 }
 
 /// Whether a word is this one.
+#[inline(always)]
 fn is(word: &[u8], known: &str) -> bool
     ensures { result ≡ bytes_eq word.now known.now }
 {
@@ -52,6 +53,7 @@ fn is(word: &[u8], known: &str) -> bool
 
 /// Whether a word is one of the 25 keywords (Go specification, "Keywords").
 #[tactic(auto, using(crate::proofs::Words::keywords_by_length))]
+#[inline(always)]
 pub fn is_keyword(word: &[u8]) -> bool
     ensures { result ≡ is_among keywords word.now }
 {

@@ -10,8 +10,8 @@ use Rattle.go_ast.specs.Characters.{newline, full_stop, double_quote, single_quo
 use Rattle.go_ast.specs.Characters.{is_white_space}
 use Rattle.go_ast.specs.Lexical.{operators, begins_number, begins_comment}
 use Rattle.go_ast.specs.declared.token.TokenKind.TheVariants.{Semi}
-use Rattle.go_scanner.specs.declared.front.Class.{Class}
-use Rattle.go_scanner.specs.declared.front.Class.TheVariants as class
+use Rattle.go_scanner.specs.declared.class.Class.{Class}
+use Rattle.go_scanner.specs.declared.class.Class.TheVariants as class
 use Rattle.go_scanner.specs.declared.shape.Shape.TheVariants.{Blank, LineEnd, Comment, Token}
 use Rattle.go_scanner.specs.Classes.{is_ascii_letter, class_of}
 use Rattle.go_scanner.specs.Shapes.{item_shape, comment_length, general_shape, number_shape}

@@ -1,3 +1,4 @@
+pub mod ClassTable
 pub mod Closings
 pub mod Dispatch
 pub mod Faults

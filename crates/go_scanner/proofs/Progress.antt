@@ -2,11 +2,14 @@
 use Rattle.std.proofs.Common.{◌≡◌, ◌==◌, ℕ, ◌+◌, ◌<◌, ◌≤◌, true, false, ◌&&◌, nat_eq, inl, inr}
 use Rattle.std.proofs.Common.{List, [], ◌∷◌, ◌++◌, length, drop, Option, Some, None, refl, sym}
 use Rattle.std.proofs.Common.{◌∙◌, ap, subst, arith}
-use Rattle.std.proofs.lemmas.List.{append-nil, append_assoc, drop-drop, drop_all, drop_at}
+use Rattle.std.proofs.Common.{zero, suc, ◌||◌, get_or}
+use Rattle.std.proofs.lemmas.List.{drop_more, append-nil, append_assoc, drop-drop, drop_all}
+use Rattle.std.proofs.lemmas.List.{drop_at}
 use Rattle.std.proofs.lemmas.List.{length-append, length-drop}
 use Rattle.std.specs.Prelude.{IsUtf8}
-use Rattle.std.specs.List.{starts_with}
-use Rattle.std.proofs.lemmas.Bool.{cases_Bool, and_left, ne_eqb}
+use Rattle.std.specs.List.{starts_with, prefix_len}
+use Rattle.std.proofs.lemmas.Bool.{cases_Bool, and_left, ne_eqb, or_cases, eqb-true}
+use Rattle.std.proofs.lemmas.List.Sums.{prefix_len_passes, prefix_len-le-length}
 use Rattle.go_ast.specs.Characters.{byte_order_mark_bytes}
 use Rattle.go_ast.specs.declared.token.Token.{Token}
 use Rattle.go_ast.specs.declared.token.Comment.{Comment}
@@ -15,6 +18,7 @@ use Rattle.go_ast.specs.Reading.{Leads, Reads, IsStuckAt, line_ends, tokens_of, 
 use Rattle.go_scanner.specs.declared.shape.Shape.{Shape}
 use Rattle.go_scanner.specs.Shapes.{shape_of, item_shape, shape_at, length_of}
 use Rattle.go_scanner.specs.declared.shape.Shape.TheVariants.{Blank}
+use Rattle.go_scanner.specs.Classes.{is_blank}
 use Rattle.go_scanner.specs.Steps.{mark_length, semicolon_of, added_tokens, added_comments}
 use Rattle.go_scanner.specs.Steps.{pending_after}
 use Rattle.go_scanner.proofs.Standing.Boundaries.{utf8_after}
@@ -250,3 +254,40 @@ pub same_reached : (bytes : List ℕ) (at there : ℕ) (pending pended : Option 
     → every ≡ comments → Reached bytes there pended all every
 same_reached bytes at there pending pended tokens all comments every before place wait ts cs =
     rw (place, wait, ts, cs) before
+
+blank_item : (b : ℕ) (rest : List ℕ) → is_blank b ≡ true → item_shape (b ∷ rest) ≡ Some (Blank 1)
+unfolding item_shape
+blank_item b rest h = elim (or_cases (b == 32 || b == 9) (b == 13) h) [
+  | inl e ↦ elim (or_cases (b == 32) (b == 9) e) [
+    | inl f ↦ rw (eqb-true b 32 f) refl
+    | inr f ↦ rw (eqb-true b 9 f) refl
+  ]
+  | inr e ↦ rw (eqb-true b 13 e) refl
+]
+
+-- past white space up to a newline nothing is added
+pub past_some : (bytes : List ℕ) (at : ℕ) (pending : Option ℕ) (tokens : List Token)
+    (comments : List Comment) → Reached bytes at pending tokens comments → (k : ℕ)
+    → k ≤ prefix_len is_blank (drop at bytes) → Reached bytes (at + k) pending tokens comments
+past_some bytes at pending tokens comments reached zero few =
+    subst (λ n. Reached bytes n pending tokens comments) (omega arith) reached
+past_some bytes at pending tokens comments reached (suc k) few =
+    let before = past_some bytes at pending tokens comments reached k (omega arith) in
+    let long = prefix_len-le-length is_blank (drop at bytes) in
+    let passes : is_blank (get_or (drop at bytes) k 0) ≡ true =
+    prefix_len_passes is_blank (drop at bytes) k 0 (omega arith) in
+    let here : drop (at + k) bytes ≡ get_or (drop at bytes) k 0 ∷ drop (k + 1) (drop at bytes) =
+    sym (drop-drop k at bytes) ∙ drop_more (drop at bytes) k 0 (omega arith) in
+    let found : item_shape (drop (at + k) bytes) ≡ Some (Blank 1) =
+    ap item_shape here
+    ∙ blank_item (get_or (drop at bytes) k 0) (drop (k + 1) (drop at bytes)) passes in
+    same_reached bytes (at + k + 1) (at + suc k) pending pending _ _ _ _
+    (goes_on bytes (at + k) pending tokens comments (Blank 1) before (sym found)) (omega arith)
+    refl (sym (append-nil tokens)) (sym (append-nil comments))
+
+pub past_blanks : (bytes : List ℕ) (at : ℕ) (pending : Option ℕ) (tokens : List Token)
+    (comments : List Comment) → Reached bytes at pending tokens comments
+    → Reached bytes (at + prefix_len is_blank (drop at bytes)) pending tokens comments
+past_blanks bytes at pending tokens comments reached =
+    past_some bytes at pending tokens comments reached (prefix_len is_blank (drop at bytes))
+    (omega arith)

@@ -1,15 +1,22 @@
 -- The name at the front of a text, byte by byte.
-use Rattle.std.proofs.Common.{◌≡◌, ℕ, ◌+◌, ◌≤◌, ◌<◌, true, false, List, [], ◌∷◌, ◌++◌, length}
+use Rattle.std.proofs.Common.{◌≡◌, ℕ, zero, suc, add-one, ⊎_elim, ◌+◌, ◌≤◌, ◌<◌, true, false}
+use Rattle.std.proofs.Common.{List, [], ◌∷◌, ◌++◌, length}
 use Rattle.std.proofs.Common.{drop, get_or, IsUtf8, encode_utf8, encode_utf8_all, sym, ap, ◌∙◌}
-use Rattle.std.proofs.Common.{subst, refl, arith, one-add, length-append, length-drop}
-use Rattle.std.specs.List.{take_while}
+use Rattle.std.proofs.Common.{subst, inl, inr, refl, arith, one-add, length-append, length-drop}
+use Rattle.std.specs.List.{prefix_len, take_while}
 use Rattle.std.specs.Char.{len_utf8}
 use Rattle.std.specs.Str.{chars}
 use Rattle.std.proofs.lemmas.List.{drop_more, drop_all}
 use Rattle.std.proofs.lemmas.Str.{encode_ascii, chars_past_char, IsUtf8-past_char, drop_past_char}
 use Rattle.std.proofs.lemmas.Str.{length-encode}
+use Rattle.std.proofs.lemmas.Bool.{cases_lt, or_cases}
+use Rattle.std.proofs.lemmas.List.Sums.{prefix_len_passes, prefix_len_stops, prefix_len-le-length}
+use Rattle.std.specs.Char.{is_ascii_digit}
 use Rattle.go_chars.specs.Identifiers.{is_letter_or_digit}
 use Rattle.go_scanner.specs.Shapes.{word_at}
+use Rattle.go_scanner.specs.Classes.{is_ascii_letter, is_word_byte}
+use Rattle.go_scanner.proofs.Standing.FirstBytes.{letter_below, digit_below}
+use Rattle.go_scanner.proofs.Standing.FirstBytes.{is_letter_or_digit-ascii}
 use Rattle.go_scanner.proofs.Standing.Characters.{chars-ascii, after_ascii_utf8}
 
 -- the name by the characters
@@ -112,3 +119,37 @@ module _ (text : List ℕ) (end : ℕ) (before : WordFrom text end) where
   ends past =
       let none = ap word_at (drop_all end text past) ∙ word_at-nil in
       omega (arith, before.rest, ap length none)
+
+word_byte_below : (b : ℕ) → is_word_byte b ≡ true → b < 128
+word_byte_below b h = elim (or_cases (is_ascii_letter b) (is_ascii_digit b) h) [
+  | inl e ↦ letter_below b e
+  | inr e ↦ digit_below b e
+]
+
+-- the letters and digits of ASCII at the front are part of the name
+pub ascii_front : (text : List ℕ) → IsUtf8 text → (k : ℕ) → k ≤ prefix_len is_word_byte text
+    → WordFrom text k
+ascii_front text utf8 zero few = start text utf8
+ascii_front text utf8 (suc k) few =
+    let passes : is_word_byte (get_or text k 0) ≡ true =
+    prefix_len_passes is_word_byte text k 0 (omega arith) in
+    let within : k < length text = omega (arith, prefix_len-le-length is_word_byte text) in
+    let low = word_byte_below (get_or text k 0) passes in
+    subst (WordFrom text) (add-one k)
+    (past_ascii text k (ascii_front text utf8 k (omega arith)) within low
+    (is_letter_or_digit-ascii (get_or text k 0) low ∙ passes))
+
+-- where they end, and no character past ASCII follows, the name ends
+pub ascii_word : (text : List ℕ) → IsUtf8 text → (n : ℕ) → n ≡ prefix_len is_word_byte text
+    → (n < length text → get_or text n 0 < 128) → n ≡ length (word_at text)
+ascii_word text utf8 n found low =
+    let before = ascii_front text utf8 n (omega arith) in
+    ⊎_elim
+    (λ (within : n < length text).
+    let stops : is_word_byte (get_or text n 0) ≡ false =
+    subst (λ k. is_word_byte (get_or text k 0) ≡ false) (sym found)
+    (prefix_len_stops is_word_byte text 0 (omega arith)) in
+    stops_ascii text n before within (low within)
+    (is_letter_or_digit-ascii (get_or text n 0) (low within) ∙ stops))
+    (λ (past : length text ≤ n). ends text n before past)
+    (cases_lt n (length text))

@@ -3,18 +3,26 @@ use Rattle.std.specs.Prelude.{ℕ, Bool, ◌||◌, if◌then◌else◌, ◌==◌
 use Rattle.std.specs.Char.{is_ascii_alphabetic, is_ascii_digit}
 use Rattle.go_ast.specs.Characters.{newline, tab, carriage_return, space, underscore, double_quote}
 use Rattle.go_ast.specs.Characters.{single_quote, back_quote, full_stop}
-use Rattle.go_scanner.specs.declared.front.Class as class
-use Rattle.go_scanner.specs.declared.front.Class.TheVariants.{LineEnd, Blank, Letter, Digit}
-use Rattle.go_scanner.specs.declared.front.Class.TheVariants.{DoubleQuote, SingleQuote, BackQuote}
-use Rattle.go_scanner.specs.declared.front.Class.TheVariants.{Semicolon, Slash, Point, Wide, Other}
+use Rattle.go_scanner.specs.declared.class.Class as class
+use Rattle.go_scanner.specs.declared.class.Class.TheVariants.{LineEnd, Blank, Letter, Digit}
+use Rattle.go_scanner.specs.declared.class.Class.TheVariants.{DoubleQuote, SingleQuote, BackQuote}
+use Rattle.go_scanner.specs.declared.class.Class.TheVariants.{Semicolon, Slash, Point, Wide, Other}
 
 -- a letter of ASCII, or the underscore
 abbrev pub is_ascii_letter : ℕ → Bool
 is_ascii_letter b = b == underscore || is_ascii_alphabetic b
 
+-- a letter or digit of ASCII, or the underscore
+abbrev pub is_word_byte : ℕ → Bool
+is_word_byte b = is_ascii_letter b || is_ascii_digit b
+
+-- white space other than the newline
+abbrev pub is_blank : ℕ → Bool
+is_blank b = b == space || b == tab || b == carriage_return
+
 abbrev pub class_of : ℕ → class.Class
 class_of b = if b == newline then LineEnd
-    else (if b == space || b == tab || b == carriage_return then Blank
+    else (if is_blank b then Blank
     else (if is_ascii_letter b then Letter
     else (if is_ascii_digit b then Digit
     else (if b == double_quote then DoubleQuote

@@ -4,6 +4,7 @@ ghost use Rattle.std.specs.Prelude.{◌≡◌, ◌<◌, length, slice_index};
 ghost use Rattle.go_scanner.specs.Shapes.{item_shape, operator_shape};
 ghost use Rattle.go_scanner.specs.Classes.{class_of};
 
+use crate::class::{Class, class_of};
 use crate::comment::{comment_length, general_shape};
 use crate::mark::{byte_at, operator_shape};
 use crate::number::number_shape;
@@ -13,46 +14,8 @@ use crate::text::{raw_shape, rune_shape, text_shape};
 use crate::word::{begins_word, front_word_shape};
 use go_ast::TokenKind;
 
-/// What may begin with a byte.
-#[derive(Clone, Copy, Debug, PartialEq, Eq)]
-enum Class {
-    LineEnd,
-    Blank,
-    /// A letter of ASCII, or the underscore.
-    Letter,
-    Digit,
-    DoubleQuote,
-    SingleQuote,
-    BackQuote,
-    Semicolon,
-    Slash,
-    Point,
-    /// The first byte of a character past ASCII.
-    Wide,
-    Other,
-}
-
-/// The class of a byte.
-fn class_of(byte: u8) -> Class
-    ensures { result ≡ class_of byte }
-{
-    match byte {
-        b'\n' => Class::LineEnd,
-        b' ' | b'\t' | b'\r' => Class::Blank,
-        b'a'..=b'z' | b'A'..=b'Z' | b'_' => Class::Letter,
-        b'0'..=b'9' => Class::Digit,
-        b'"' => Class::DoubleQuote,
-        b'\'' => Class::SingleQuote,
-        b'`' => Class::BackQuote,
-        b';' => Class::Semicolon,
-        b'/' => Class::Slash,
-        b'.' => Class::Point,
-        128..=255 => Class::Wide,
-        _ => Class::Other,
-    }
-}
-
 /// The comment or operator at the front, which begins with a slash.
+#[inline(always)]
 fn slash_shape(bytes: &[u8]) -> Option<Shape>
     requires { slice_index bytes.now 0 ≡ 47 }
     ensures { result ≡ item_shape bytes.now }
@@ -68,6 +31,7 @@ fn slash_shape(bytes: &[u8]) -> Option<Shape>
 }
 
 /// The number or operator at the front, which begins with a full stop.
+#[inline(always)]
 fn point_shape(bytes: &[u8]) -> Option<Shape>
     requires { slice_index bytes.now 0 ≡ 46 }
     ensures { result ≡ item_shape bytes.now }
@@ -81,6 +45,8 @@ fn point_shape(bytes: &[u8]) -> Option<Shape>
 
 /// The word at the front, which begins with a character past ASCII, or `None` where that is no
 /// letter.
+#[cold]
+#[inline(never)]
 fn wide_shape(text: &str) -> Option<Shape>
     requires { class_of (slice_index text.now 0) ≡ Class.Wide }
     ensures { result ≡ item_shape text.now }
@@ -94,6 +60,7 @@ fn wide_shape(text: &str) -> Option<Shape>
 
 /// What stands at the front of a text that isn't empty, past the start of a source, or `None` where
 /// no item does.
+#[inline(always)]
 pub fn item_shape(text: &str) -> Option<Shape>
     requires { 0 < length text.now }
     ensures { result ≡ item_shape text.now }

@@ -2,6 +2,7 @@
 //! elements").
 #![tactic(auto)]
 
+mod class;
 mod comment;
 mod fault;
 mod front;

@@ -10,6 +10,7 @@ use crate::word::is;
 use go_ast::TokenKind;
 
 /// The byte at a place, or 0 past the end.
+#[inline(always)]
 pub fn byte_at(bytes: &[u8], place: usize) -> u8
     ensures { result ≡ slice_index bytes.now place }
 {
@@ -17,6 +18,7 @@ pub fn byte_at(bytes: &[u8], place: usize) -> u8
 }
 
 /// Whether a mark begins no longer operator.
+#[inline(always)]
 fn stands_alone(mark: u8) -> bool
     ensures { result ≡ stands_alone mark }
 {
@@ -24,6 +26,7 @@ fn stands_alone(mark: u8) -> bool
 }
 
 /// Whether `=` alone makes a mark longer.
+#[inline(always)]
 fn takes_equals(mark: u8) -> bool
     ensures { result ≡ takes_equals mark }
 {
@@ -31,6 +34,7 @@ fn takes_equals(mark: u8) -> bool
 }
 
 /// Whether `=` and the mark itself make a mark longer.
+#[inline(always)]
 fn takes_itself(mark: u8) -> bool
     ensures { result ≡ takes_itself mark }
 {
@@ -39,6 +43,7 @@ fn takes_itself(mark: u8) -> bool
 
 /// How many bytes the longest operator has that the three bytes begin with, or 0 where there is
 /// none.
+#[inline(always)]
 fn operator_length(first: u8, second: u8, third: u8) -> usize
     ensures { result ≡ operator_length first second third }
 {
@@ -65,6 +70,7 @@ fn operator_length(first: u8, second: u8, third: u8) -> usize
 }
 
 /// Whether an operator takes a semicolon at the end of a line.
+#[inline(always)]
 fn ends_statement(mark: &[u8]) -> bool
     ensures { result
         ≡ is_among (codes "++" ∷ codes "--" ∷ codes ")" ∷ codes "]" ∷ codes "}" ∷ []) mark.now }
@@ -73,6 +79,7 @@ fn ends_statement(mark: &[u8]) -> bool
 }
 
 /// The operator that the bytes are.
+#[inline(always)]
 fn mark_shape(mark: &[u8]) -> Shape
     ensures { result ≡ mark_shape mark.now }
 {
@@ -81,6 +88,7 @@ fn mark_shape(mark: &[u8]) -> Shape
 
 /// The longest operator at the front, or `None` where there is none.
 #[tactic(auto, using(crate::proofs::Marks::operator_shape_of_length, crate::proofs::Marks::operator_length_within))]
+#[inline(always)]
 pub fn operator_shape(rest: &[u8]) -> Option<Shape>
     ensures { result ≡ operator_shape rest.now }
 {

@@ -1,7 +1,8 @@
 //! One pass over a source.
 
 ghost use Rattle.std.specs.Prelude.{◌≡◌, ◌++◌, ◌∷◌, ◌≤◌, All, List, [], length, IfOk, IfErr, OnOk};
-ghost use Rattle.std.specs.Prelude.{MatchResult};
+ghost use Rattle.std.specs.Prelude.{MatchResult, ◌+◌, drop};
+ghost use Rattle.std.specs.List.{prefix_len};
 ghost use Rattle.go_ast.specs.declared.token.Token.{Token};
 ghost use Rattle.go_ast.specs.declared.token.Comment.{Comment};
 ghost use Rattle.go_ast.specs.declared.fault.Fault.{Fault};
@@ -10,9 +11,11 @@ ghost use Rattle.go_ast.specs.Position.{line_starts};
 ghost use Rattle.go_ast.specs.Reading.{Reads, ScanFault, token_of};
 ghost use Rattle.go_ast.specs.Tokens.{AreSpelled, IsWithin};
 ghost use Rattle.go_scanner.specs.Answers.{AreInOrder, IsRead, IsRefusedAs, RefusedFor};
+ghost use Rattle.go_scanner.specs.Classes.{is_blank};
 ghost use Rattle.go_scanner.specs.Steps.{comment_of, mark_length, pending_at, pending_of};
 ghost use Rattle.go_scanner.specs.Steps.{semicolon_at};
 
+use crate::class::is_blank;
 use crate::fault::fault_at;
 use crate::front::item_shape;
 use crate::lines::line_starts;
@@ -37,6 +40,7 @@ fn no_tokens(alloc: Global, length: usize) -> Result<Vec<Token>, Refused>
 
 /// Adds the semicolon that the last token takes, where a line ends, and gives what is pending after
 /// that.
+#[inline(always)]
 fn end_line(
     tokens: &mut Vec<Token>,
     pending: Option<u32>,
@@ -57,6 +61,7 @@ fn end_line(
 }
 
 /// Where a token ends, if it takes a semicolon.
+#[inline(always)]
 fn pending_of(takes: bool, end: u32) -> Option<u32>
     ensures { result ≡ pending_of takes end }
 {
@@ -64,6 +69,7 @@ fn pending_of(takes: bool, end: u32) -> Option<u32>
 }
 
 /// Adds a token that stands between two offsets.
+#[inline(always)]
 fn push_token(tokens: &mut Vec<Token>, kind: TokenKind, start: u32, end: u32) -> Result<(), Refused>
     ensures ok { OnOk result (tokens.new.items ≡ tokens.old.items ++ token_of kind start end ∷ []) }
     ensures err { IfErr result (λ refused. refused ≡ Refused.NoMemory) }
@@ -73,6 +79,7 @@ fn push_token(tokens: &mut Vec<Token>, kind: TokenKind, start: u32, end: u32) ->
 }
 
 /// Adds a comment that stands between two offsets.
+#[inline(always)]
 fn push_comment(
     comments: &mut Vec<Comment>,
     general: bool,
@@ -105,6 +112,29 @@ fn mark_length(source: &[u8]) -> usize
     }
 }
 
+/// How many bytes of white space stand at the front, up to a newline.
+#[inline(always)]
+fn blank_length(bytes: &[u8]) -> usize
+    ensures { result ≡ prefix_len is_blank bytes.now }
+{
+    for (i, byte) in bytes.iter().enumerate() {
+        if !is_blank(*byte) {
+            return i;
+        }
+    }
+    bytes.len()
+}
+
+/// The place after the white space at a place, up to a newline.
+#[inline(always)]
+fn past_blanks(source: &[u8], at: usize) -> usize
+    requires size { length source.now ≤ MAX_SOURCE_BYTES }
+    requires place { at ≤ length source.now }
+    ensures { result ≡ at + prefix_len is_blank (drop at source.now) }
+{
+    at + blank_length(&source[at..])
+}
+
 /// Reads a source from its start to its end, or to the first place where no item stands.
 fn read(alloc: Global, text: &str) -> Result<Found, Refused>
     requires { length text.now ≤ MAX_SOURCE_BYTES }
@@ -115,14 +145,15 @@ fn read(alloc: Global, text: &str) -> Result<Found, Refused>
     let mut tokens = no_tokens(alloc, source.len())?;
     let mut comments = Vec::new(alloc);
     let mut pending = None;
-    let mut at = mark_length(source);
+    let mut at = past_blanks(source, mark_length(source));
     while at < source.len() {
         let Some(shape) = item_shape(&text[at..]) else {
             return Err(Refused::Fault(fault_at(at as u32, &source[at..])));
         };
         let start = at as u32;
-        at += shape.length();
-        let end = at as u32;
+        let after = at + shape.length();
+        let end = after as u32;
+        at = past_blanks(source, after);
         match shape {
             Shape::Blank(_) => {}
             Shape::LineEnd => pending = end_line(&mut tokens, pending, true)?,

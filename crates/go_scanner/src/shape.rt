@@ -23,6 +23,7 @@ pub enum Shape {
 
 impl Shape {
     /// How many bytes the item has.
+    #[inline(always)]
     pub fn length(self) -> usize
         ensures { result ≡ length_of self }
     {

@@ -2,9 +2,12 @@
 
 ghost use Rattle.std.specs.Prelude.{◌≡◌, [], ◌∷◌, codes, length};
 ghost use Rattle.std.specs.Str.{bytes_eq, chars};
+ghost use Rattle.std.specs.List.{prefix_len};
 ghost use Rattle.go_chars.specs.Identifiers.{is_among, is_letter_or_digit};
+ghost use Rattle.go_scanner.specs.Classes.{is_word_byte};
 ghost use Rattle.go_scanner.specs.Shapes.{begins_word, word_at, word_shape};
 
+use crate::class::is_word_byte;
 use crate::shape::Shape;
 use go_ast::TokenKind;
 use go_chars::{is_digit, is_keyword, is_letter};
@@ -16,12 +19,29 @@ fn is_letter_or_digit(c: char) -> bool
     is_letter(c) || is_digit(c)
 }
 
-/// How many bytes the letters and digits at the front have.
-pub fn word_length(text: &str) -> usize
+/// How many letters and digits of ASCII and underscores stand at the front.
+#[inline(always)]
+fn ascii_length(bytes: &[u8]) -> usize
+    ensures { result ≡ prefix_len is_word_byte bytes.now }
+{
+    for (i, byte) in bytes.iter().enumerate() {
+        if !is_word_byte(*byte) {
+            return i;
+        }
+    }
+    bytes.len()
+}
+
+/// How many bytes the letters and digits at the front have, where those of ASCII at the front are
+/// found.
+#[cold]
+#[inline(never)]
+fn length_past_ascii(text: &str, found: usize) -> usize
+    requires { found ≡ prefix_len is_word_byte text.now }
     ensures { result ≡ length (word_at text.now) }
 {
     let bytes = text.as_bytes();
-    let mut end = 0;
+    let mut end = found;
     while end < bytes.len() {
         if bytes[end].is_ascii() {
             if !is_letter_or_digit(bytes[end] as char) {
@@ -41,6 +61,20 @@ pub fn word_length(text: &str) -> usize
     end
 }
 
+/// How many bytes the letters and digits at the front have.
+#[inline(always)]
+pub fn word_length(text: &str) -> usize
+    ensures { result ≡ length (word_at text.now) }
+{
+    let bytes = text.as_bytes();
+    let end = ascii_length(bytes);
+    if end < bytes.len() && !bytes[end].is_ascii() {
+        length_past_ascii(text, end)
+    } else {
+        end
+    }
+}
+
 /// Whether the first character is a letter.
 #[tactic(auto, unfolding(crate::specs::Shapes::begins_word))]
 pub fn begins_word(text: &str) -> bool
@@ -53,6 +87,7 @@ pub fn begins_word(text: &str) -> bool
 }
 
 /// Whether a word is this one.
+#[inline(always)]
 pub fn is(word: &[u8], known: &str) -> bool
     ensures { result ≡ bytes_eq word.now known.now }
 {
@@ -60,6 +95,7 @@ pub fn is(word: &[u8], known: &str) -> bool
 }
 
 /// Whether a keyword takes a semicolon at the end of a line.
+#[inline(always)]
 fn ends_statement(word: &[u8]) -> bool
     ensures { result
         ≡ is_among
@@ -71,6 +107,7 @@ fn ends_statement(word: &[u8]) -> bool
 
 /// The keyword or identifier that a word is.
 #[tactic(auto, unfolding(crate::specs::Shapes::word_shape))]
+#[inline(always)]
 pub fn word_shape(word: &[u8]) -> Shape
     ensures { result ≡ word_shape word.now }
 {
@@ -82,6 +119,7 @@ pub fn word_shape(word: &[u8]) -> Shape
 }
 
 /// The word at the front.
+#[inline(always)]
 pub fn front_word_shape(text: &str) -> Shape
     ensures { result ≡ word_shape (word_at text.now) }
 {

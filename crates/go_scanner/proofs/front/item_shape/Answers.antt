@@ -1,7 +1,7 @@
 use Rattle.std.proofs.Common.{◌≡◌, Some, drop, get_or, sym, ◌∙◌, ap, arith}
 use Rattle.std.proofs.lemmas.List.{take_rest}
 use Rattle.std.proofs.lemmas.Str.{IsCharBoundary-after_ascii}
-use Rattle.go_scanner.specs.declared.front.Class.TheVariants as class
+use Rattle.go_scanner.specs.declared.class.Class.TheVariants as class
 use Rattle.go_scanner.specs.Classes.{class_of}
 use Rattle.go_scanner.specs.Shapes.{item_shape, number_shape, text_shape, rune_shape, raw_shape}
 use Rattle.go_scanner.specs.Shapes.{operator_shape}

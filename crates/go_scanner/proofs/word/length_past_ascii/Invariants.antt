@@ -1,6 +1,6 @@
 use Rattle.std.proofs.Common.{◌-◌, length}
 use Rattle.go_scanner.proofs.Words.{WordFrom}
-use Rattle.go_scanner.proofs.word.word_length.Given as goal
+use Rattle.go_scanner.proofs.word.length_past_ascii.Given as goal
 
 -- the name so far and what is left of it are the name
 abbrev pub invariant-loop-end : goal.invariant-loop-end

@@ -1,0 +1,87 @@
+"""What the benchmarks share: the trees that are scanned, the program, its peers, and how a run is timed."""
+import os
+import shutil
+import subprocess
+import tempfile
+import time
+
+HERE = os.path.dirname(os.path.abspath(__file__))
+PROGRAM = os.path.join(HERE, "..", "crates", "godoc", "out", "godoc")
+GO_SOURCES = "/usr/share/go-1.19/src"
+FILES, LINES = 160, 8000
+WORDS = "a buffer count err field index key length name next offset reader result size state value writer".split()
+FORMS = [
+    "func {0}{3}({1} int, {2} string) error {{\n\treturn {1}.{2}({3}) + {0}\n}}\n",
+    "\tif {0} != nil && {1}.{2} <= {3} {{ return {0}, \"{1} of {2}\" }} // {3} of {0}\n",
+    "\tfor {0} := 0; {0} < len({1}); {0}++ {{ {2}[{0}] += {3} }}\n",
+    "\t{0}, {1} := {2}.{1}({3}, \"{0}\"), {3}\n",
+    "// {0} is the {1} of {2}, and {3} is none.\nvar {0}{3} = {1}({2}, 10)\n",
+]
+
+
+def make_tree(root, files=FILES):
+    """Writes files of our own making, the same in every run."""
+    state = 1
+    for number in range(files):
+        folder = os.path.join(root, "p%02d" % (number % 10))
+        os.makedirs(folder, exist_ok=True)
+        with open(os.path.join(folder, "f%03d.go" % number), "w") as out:
+            out.write("package p%02d\n\n" % (number % 10))
+            for _ in range(LINES):
+                chosen = []
+                for _ in range(5):
+                    state = (state * 1103515245 + 12345) % 2147483648
+                    chosen.append(state >> 16)
+                words = [WORDS[c % len(WORDS)] for c in chosen[1:]]
+                out.write(FORMS[chosen[0] % len(FORMS)].format(*words))
+
+
+def is_left_out(name):
+    """Whether godoc enters no folder of this name."""
+    return name.startswith((".", "_")) or name in ("vendor", "testdata")
+
+
+def size_of(root):
+    """The bytes of all Go files that godoc reads under a folder, and of the largest."""
+    total = largest = 0
+    for folder, folders, names in os.walk(root):
+        folders[:] = [name for name in folders if not is_left_out(name)]
+        for name in names:
+            path = os.path.join(folder, name)
+            if name.endswith(".go") and not name.startswith((".", "_")) and os.path.isfile(path):
+                size = os.path.getsize(path)
+                total, largest = total + size, max(largest, size)
+    return total, largest
+
+
+def build_goscan(work):
+    """Builds Go's own scanner as a program in a folder: its path, or None where Go is missing."""
+    if not shutil.which("go"):
+        return None
+    program = os.path.join(work, "goscan")
+    environment = dict(os.environ, GOCACHE=os.path.join(work, "cache"), GO111MODULE="off")
+    source = os.path.join(HERE, "goscan", "main.go")
+    return None if subprocess.call(["go", "build", "-o", program, source], env=environment) else program
+
+
+def one_core():
+    """An environment in which a Go program runs on one core."""
+    return dict(os.environ, GOMAXPROCS="1")
+
+
+def timed(words, out, environment=None):
+    """The seconds that a run takes, with its output in a file."""
+    began = time.monotonic()
+    subprocess.call(words, stdout=out, stderr=subprocess.DEVNULL, stdin=subprocess.DEVNULL, env=environment)
+    return time.monotonic() - began
+
+
+def best(words, environment=None, runs=3):
+    """The least time of some runs in seconds, and the lines written."""
+    seconds, lines = float("inf"), 0
+    for _ in range(runs):
+        with tempfile.TemporaryFile() as out:
+            seconds = min(seconds, timed(words, out, environment))
+            out.seek(0)
+            lines = sum(piece.count(b"\n") for piece in iter(lambda: out.read(1 << 16), b""))
+    return seconds, lines
