@@ -3,17 +3,19 @@ use Rattle.std.proofs.Common.{◌≡◌, ◌==◌, ℕ, suc, ◌<◌, ◌≤◌,
 use Rattle.std.proofs.Common.{List, [], ◌∷◌, length, drop, take, get_or, nat_eq, nat_lt, Some}
 use Rattle.std.proofs.Common.{None, sym, ap, ◌∙◌, subst, refl, inl, inr, arith}
 use Rattle.std.specs.Char.{is_ascii_digit}
-use Rattle.std.proofs.lemmas.Bool.{and_parts, or_parts, not-true, eqb-true, eqb-false, eq-eqb}
+use Rattle.std.proofs.lemmas.Bool.{or_cases, and_parts, or_parts, not-true, eqb-true, eqb-false}
+use Rattle.std.proofs.lemmas.Bool.{eq-eqb}
 use Rattle.std.proofs.lemmas.Bool.{ne_eqb, le-ltb, cases_Bool, cases_lt, agree_below, false≢true}
 use Rattle.go_chars.specs.Identifiers.{is_among}
 use Rattle.go_ast.specs.Characters.{newline, full_stop, double_quote, single_quote, back_quote}
 use Rattle.go_ast.specs.Characters.{is_white_space}
 use Rattle.go_ast.specs.Lexical.{operators, begins_number, begins_comment}
-use Rattle.go_ast.specs.declared.token.TokenKind.TheVariants.{Semi}
+use Rattle.go_ast.specs.declared.token.TokenKind.TheVariants.{Operator, Semi}
 use Rattle.go_scanner.specs.declared.class.Class.{Class}
 use Rattle.go_scanner.specs.declared.class.Class.TheVariants as class
 use Rattle.go_scanner.specs.declared.shape.Shape.TheVariants.{Blank, LineEnd, Comment, Token}
-use Rattle.go_scanner.specs.Classes.{is_ascii_letter, class_of}
+use Rattle.go_scanner.specs.Classes.{is_ascii_letter, is_closing, is_lone, class_of}
+use Rattle.go_scanner.proofs.Marks.{operator_shape_of_length}
 use Rattle.go_scanner.specs.Shapes.{item_shape, comment_length, general_shape, number_shape}
 use Rattle.go_scanner.specs.Shapes.{begins_word, word_shape, word_at, text_shape, rune_shape}
 use Rattle.go_scanner.specs.Shapes.{raw_shape, operator_shape, marked_shape, spelling_shape}
@@ -38,6 +40,8 @@ code class.Slash = 8
 code class.Point = 9
 code class.Wide = 10
 code class.Other = 11
+code class.Closing = 12
+code class.Lone = 13
 
 abbrev is_class : ℕ → ℕ → Bool
 is_class k b = code (class_of b) == k
@@ -55,6 +59,22 @@ high_digit b high =
     elim (cases_Bool (is_ascii_digit b))
     [ inr never ↦ never | inl sure ↦ absurd (omega (arith, digit_below b sure)) ]
 
+high_closing : (b : ℕ) → 128 ≤ b → is_closing b ≡ false
+high_closing b high =
+    let e : (b == 41) ≡ false = ne_eqb b 41 (λ e. omega arith) in
+    let f : (b == 93) ≡ false = ne_eqb b 93 (λ e. omega arith) in
+    let g : (b == 125) ≡ false = ne_eqb b 125 (λ e. omega arith) in
+    rw (e, f, g) refl
+
+high_lone : (b : ℕ) → 128 ≤ b → is_lone b ≡ false
+high_lone b high =
+    let e : (b == 40) ≡ false = ne_eqb b 40 (λ e. omega arith) in
+    let f : (b == 44) ≡ false = ne_eqb b 44 (λ e. omega arith) in
+    let g : (b == 91) ≡ false = ne_eqb b 91 (λ e. omega arith) in
+    let h : (b == 123) ≡ false = ne_eqb b 123 (λ e. omega arith) in
+    let i : (b == 126) ≡ false = ne_eqb b 126 (λ e. omega arith) in
+    rw (e, f, g, h, i) refl
+
 -- a byte past ASCII passes no test of ASCII
 high_class : (b : ℕ) → 128 ≤ b → class_of b ≡ class.Wide
 high_class b high =
@@ -71,7 +91,9 @@ high_class b high =
     let v : (b == 47) ≡ false = ne_eqb b 47 (λ e. omega arith) in
     let p : (b == full_stop) ≡ false = ne_eqb b full_stop (λ e. omega arith) in
     let w : nat_lt b 128 ≡ false = le-ltb b 128 high in
-    rw (n, s, t, r, l, d, q, o, k, m, v, p, w) refl
+    let x = high_closing b high in
+    let y = high_lone b high in
+    rw (n, s, t, r, l, d, q, o, k, m, v, p, x, y, w) refl
 
 -- the bytes of a class other than the wide one
 class_test : (c : Class) (test : ℕ → Bool)
@@ -197,10 +219,10 @@ is_operator_byte b =
     not (is_white_space b || b == 47 || is_ascii_digit b || b == full_stop || is_ascii_letter b
     || b == double_quote || b == single_quote || b == back_quote || b == 59)
 
-pub other : (b : ℕ) (rest : List ℕ) → class_of b ≡ class.Other
+operator_item : (b : ℕ) (rest : List ℕ) → is_operator_byte b ≡ true → b < 128
     → item_shape (b ∷ rest) ≡ operator_shape (b ∷ rest)
-other b rest h =
-    let none = not-true _ (class_test class.Other is_operator_byte refl refl b h) in
+operator_item b rest mark low =
+    let none = not-true _ mark in
     let a =
     or_parts
     (is_white_space b || b == 47 || is_ascii_digit b || b == full_stop || is_ascii_letter b
@@ -223,8 +245,53 @@ other b rest h =
     let j = or_parts (is_white_space b || b == 47 || is_ascii_digit b) (b == full_stop) i.0 in
     let k = or_parts (is_white_space b || b == 47) (is_ascii_digit b) j.0 in
     let l = or_parts (is_white_space b) (b == 47) k.0 in
-    marked_item b rest (class_low class.Other refl b h) l.0 l.1 k.1 j.1 i.1
-    ∙ marked-operator b (b ∷ rest) g.1 f.1 e.1 a.1
+    marked_item b rest low l.0 l.1 k.1 j.1 i.1 ∙ marked-operator b (b ∷ rest) g.1 f.1 e.1 a.1
+
+pub other : (b : ℕ) (rest : List ℕ) → class_of b ≡ class.Other
+    → item_shape (b ∷ rest) ≡ operator_shape (b ∷ rest)
+other b rest h =
+    operator_item b rest (class_test class.Other is_operator_byte refl refl b h)
+    (class_low class.Other refl b h)
+
+closing_shape : (b : ℕ) (rest : List ℕ) → is_closing b ≡ true
+    → operator_shape (b ∷ rest) ≡ Some (Token Operator true 1)
+closing_shape b rest h = elim (or_cases (b == 41 || b == 93) (b == 125) h) [
+  | inl e ↦ elim (or_cases (b == 41) (b == 93) e) [
+    | inl f ↦ rw (eqb-true b 41 f) (operator_shape_of_length (41 ∷ rest))
+    | inr f ↦ rw (eqb-true b 93 f) (operator_shape_of_length (93 ∷ rest))
+  ]
+  | inr e ↦ rw (eqb-true b 125 e) (operator_shape_of_length (125 ∷ rest))
+]
+
+lone_shape : (b : ℕ) (rest : List ℕ) → is_lone b ≡ true
+    → operator_shape (b ∷ rest) ≡ Some (Token Operator false 1)
+lone_shape b rest h = elim (or_cases (b == 40 || b == 44 || b == 91 || b == 123) (b == 126) h) [
+  | inl e ↦ elim (or_cases (b == 40 || b == 44 || b == 91) (b == 123) e) [
+    | inl f ↦ elim (or_cases (b == 40 || b == 44) (b == 91) f) [
+      | inl g ↦ elim (or_cases (b == 40) (b == 44) g) [
+        | inl i ↦ rw (eqb-true b 40 i) (operator_shape_of_length (40 ∷ rest))
+        | inr i ↦ rw (eqb-true b 44 i) (operator_shape_of_length (44 ∷ rest))
+      ]
+      | inr g ↦ rw (eqb-true b 91 g) (operator_shape_of_length (91 ∷ rest))
+    ]
+    | inr f ↦ rw (eqb-true b 123 f) (operator_shape_of_length (123 ∷ rest))
+  ]
+  | inr e ↦ rw (eqb-true b 126 e) (operator_shape_of_length (126 ∷ rest))
+]
+
+pub closing : (b : ℕ) (rest : List ℕ) → class_of b ≡ class.Closing
+    → item_shape (b ∷ rest) ≡ Some (Token Operator true 1)
+closing b rest h =
+    operator_item b rest (class_test class.Closing is_operator_byte refl refl b h)
+    (class_low class.Closing refl b h)
+    ∙ closing_shape b rest (class_test class.Closing is_closing refl refl b h)
+
+pub lone : (b : ℕ) (rest : List ℕ) → class_of b ≡ class.Lone
+    → item_shape (b ∷ rest) ≡ Some (Token Operator false 1)
+lone b rest h =
+    operator_item b rest (class_test class.Lone is_operator_byte refl refl b h)
+    (class_low class.Lone refl b h)
+    ∙ lone_shape b rest (class_test class.Lone is_lone refl refl b h)
 
 -- a slash
 pub slash_line : (rest : List ℕ)
@@ -368,6 +435,16 @@ pub at_semicolon : (bytes : List ℕ) → 0 < length bytes
     → class_of (get_or bytes 0 0) ≡ class.Semicolon → item_shape bytes ≡ Some (Token Semi false 1)
 at_semicolon [] some h = absurd (omega arith)
 at_semicolon (b ∷ rest) some h = semicolon b rest h
+
+pub at_closing : (bytes : List ℕ) → 0 < length bytes → class_of (get_or bytes 0 0) ≡ class.Closing
+    → item_shape bytes ≡ Some (Token Operator true 1)
+at_closing [] some h = absurd (omega arith)
+at_closing (b ∷ rest) some h = closing b rest h
+
+pub at_lone : (bytes : List ℕ) → 0 < length bytes → class_of (get_or bytes 0 0) ≡ class.Lone
+    → item_shape bytes ≡ Some (Token Operator false 1)
+at_lone [] some h = absurd (omega arith)
+at_lone (b ∷ rest) some h = lone b rest h
 
 pub at_other : (bytes : List ℕ) → 0 < length bytes → class_of (get_or bytes 0 0) ≡ class.Other
     → item_shape bytes ≡ operator_shape bytes

@@ -6,7 +6,8 @@ use Rattle.go_ast.specs.Characters.{single_quote, back_quote, full_stop}
 use Rattle.go_scanner.specs.declared.class.Class as class
 use Rattle.go_scanner.specs.declared.class.Class.TheVariants.{LineEnd, Blank, Letter, Digit}
 use Rattle.go_scanner.specs.declared.class.Class.TheVariants.{DoubleQuote, SingleQuote, BackQuote}
-use Rattle.go_scanner.specs.declared.class.Class.TheVariants.{Semicolon, Slash, Point, Wide, Other}
+use Rattle.go_scanner.specs.declared.class.Class.TheVariants.{Semicolon, Slash, Point, Closing}
+use Rattle.go_scanner.specs.declared.class.Class.TheVariants.{Lone, Wide, Other}
 
 -- a letter of ASCII, or the underscore
 abbrev pub is_ascii_letter : ℕ → Bool
@@ -20,6 +21,14 @@ is_word_byte b = is_ascii_letter b || is_ascii_digit b
 abbrev pub is_blank : ℕ → Bool
 is_blank b = b == space || b == tab || b == carriage_return
 
+-- a closing bracket
+abbrev pub is_closing : ℕ → Bool
+is_closing b = b == 41 || b == 93 || b == 125
+
+-- an opening bracket, a comma or a tilde, each of which begins no longer operator
+abbrev pub is_lone : ℕ → Bool
+is_lone b = b == 40 || b == 44 || b == 91 || b == 123 || b == 126
+
 abbrev pub class_of : ℕ → class.Class
 class_of b = if b == newline then LineEnd
     else (if is_blank b then Blank
@@ -31,4 +40,6 @@ class_of b = if b == newline then LineEnd
     else (if b == 59 then Semicolon
     else (if b == 47 then Slash
     else (if b == full_stop then Point
-    else (if nat_lt b 128 then Other else Wide))))))))))
+    else (if is_closing b then Closing
+    else (if is_lone b then Lone
+    else (if nat_lt b 128 then Other else Wide))))))))))))

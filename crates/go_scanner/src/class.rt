@@ -4,24 +4,28 @@ ghost use Rattle.std.specs.Prelude.{◌≡◌};
 ghost use Rattle.go_scanner.specs.Classes.{class_of, is_blank, is_word_byte};
 
 use Class::{
-    BackQuote as Back, Blank, Digit, DoubleQuote as Double, Letter, LineEnd, Other, Point,
-    Semicolon, SingleQuote as Single, Slash, Wide,
+    BackQuote as Back, Blank, Closing, Digit, DoubleQuote as Double, Letter, LineEnd, Lone, Other,
+    Point, Semicolon, SingleQuote as Single, Slash, Wide,
 };
 
 /// What may begin with a byte.
 #[derive(Clone, Copy, Debug, PartialEq, Eq)]
 pub enum Class {
-    LineEnd,
-    Blank,
     /// A letter of ASCII, or the underscore.
     Letter,
     Digit,
+    LineEnd,
+    Blank,
     DoubleQuote,
     SingleQuote,
     BackQuote,
     Semicolon,
     Slash,
     Point,
+    /// A closing bracket.
+    Closing,
+    /// An opening bracket, a comma or a tilde, each of which begins no longer operator.
+    Lone,
     /// The first byte of a character past ASCII.
     Wide,
     Other,
@@ -32,14 +36,14 @@ static CLASSES: [Class; 256] = [
     Other, Other, Other, Other, Other, Other, Other, Other, Other, Blank, LineEnd, Other, Other,
     Blank, Other, Other, Other, Other, Other, Other, Other, Other, Other, Other, Other, Other,
     Other, Other, Other, Other, Other, Other, Blank, Other, Double, Other, Other, Other, Other,
-    Single, Other, Other, Other, Other, Other, Other, Point, Slash, Digit, Digit, Digit, Digit,
+    Single, Lone, Closing, Other, Other, Lone, Other, Point, Slash, Digit, Digit, Digit, Digit,
     Digit, Digit, Digit, Digit, Digit, Digit, Other, Semicolon, Other, Other, Other, Other, Other,
     Letter, Letter, Letter, Letter, Letter, Letter, Letter, Letter, Letter, Letter, Letter, Letter,
     Letter, Letter, Letter, Letter, Letter, Letter, Letter, Letter, Letter, Letter, Letter, Letter,
-    Letter, Letter, Other, Other, Other, Other, Letter, Back, Letter, Letter, Letter, Letter,
+    Letter, Letter, Lone, Other, Closing, Other, Letter, Back, Letter, Letter, Letter, Letter,
     Letter, Letter, Letter, Letter, Letter, Letter, Letter, Letter, Letter, Letter, Letter, Letter,
-    Letter, Letter, Letter, Letter, Letter, Letter, Letter, Letter, Letter, Letter, Other, Other,
-    Other, Other, Other, Wide, Wide, Wide, Wide, Wide, Wide, Wide, Wide, Wide, Wide, Wide, Wide,
+    Letter, Letter, Letter, Letter, Letter, Letter, Letter, Letter, Letter, Letter, Lone, Other,
+    Closing, Lone, Other, Wide, Wide, Wide, Wide, Wide, Wide, Wide, Wide, Wide, Wide, Wide, Wide,
     Wide, Wide, Wide, Wide, Wide, Wide, Wide, Wide, Wide, Wide, Wide, Wide, Wide, Wide, Wide, Wide,
     Wide, Wide, Wide, Wide, Wide, Wide, Wide, Wide, Wide, Wide, Wide, Wide, Wide, Wide, Wide, Wide,
     Wide, Wide, Wide, Wide, Wide, Wide, Wide, Wide, Wide, Wide, Wide, Wide, Wide, Wide, Wide, Wide,

@@ -78,6 +78,8 @@ pub fn item_shape(text: &str) -> Option<Shape>
         Class::Slash => slash_shape(bytes),
         Class::Point => point_shape(bytes),
         Class::Wide => wide_shape(text),
+        Class::Closing => Some(Shape::Token(TokenKind::Operator, true, 1)),
+        Class::Lone => Some(Shape::Token(TokenKind::Operator, false, 1)),
         Class::Other => operator_shape(bytes),
     }
 }

@@ -7,7 +7,7 @@ use Rattle.go_scanner.specs.Shapes.{item_shape, number_shape, text_shape, rune_s
 use Rattle.go_scanner.specs.Shapes.{operator_shape}
 use Rattle.go_scanner.proofs.Dispatch.{at_line_end, at_blank, at_letter, at_digit, at_double}
 use Rattle.go_scanner.proofs.Dispatch.{at_single, at_back, at_semicolon, at_other, slash_byte}
-use Rattle.go_scanner.proofs.Dispatch.{point_byte, quote_byte}
+use Rattle.go_scanner.proofs.Dispatch.{point_byte, quote_byte, at_closing, at_lone}
 use Rattle.go_scanner.proofs.front.item_shape.Goals as goal
 
 pub returns-in-LineEnd : goal.returns-in-LineEnd
@@ -107,3 +107,17 @@ returns-in-Other c =
     ∙ sym c.in-Other.ensures in
     c.operator_shape.ensures ∙ ap operator_shape c.as_bytes-bytes.ensures.value
     ∙ sym (at_other c.args.text.now c.requires h)
+
+pub returns-in-Closing : goal.returns-in-Closing
+returns-in-Closing c =
+    let h : class_of (get_or c.args.text.now 0 0) ≡ class.Closing =
+    ap (λ l. class_of (get_or l 0 0)) (sym c.as_bytes-bytes.ensures.value)
+    ∙ sym c.in-Closing.ensures in
+    sym (at_closing c.args.text.now c.requires h)
+
+pub returns-in-Lone : goal.returns-in-Lone
+returns-in-Lone c =
+    let h : class_of (get_or c.args.text.now 0 0) ≡ class.Lone =
+    ap (λ l. class_of (get_or l 0 0)) (sym c.as_bytes-bytes.ensures.value)
+    ∙ sym c.in-Lone.ensures in
+    sym (at_lone c.args.text.now c.requires h)
