@@ -1,5 +1,6 @@
 -- Brackets, as they are read and as they are spelled.
-use Rattle.std.proofs.Common.{◌≡◌, ◌∙◌, ap, sym, refl, subst, Bool, true, false, List, [], ◌∷◌, ◌++◌, Option, Some, None}
+use Rattle.std.proofs.Common.{◌≡◌, ◌∙◌, ap, sym, refl, subst, true, List, [], ◌∷◌}
+use Rattle.std.proofs.Common.{◌++◌, Some}
 use Rattle.go_ast.specs.declared.word.Word.{Word}
 use Rattle.go_ast.specs.declared.word.Mark.{Mark}
 use Rattle.go_ast.specs.Cutting.{Encloses, encloses}
@@ -10,13 +11,16 @@ use Rattle.type_parser.proofs.Closing.{enclosed-is, is-enclosed}
 use Rattle.type_parser.proofs.Options.{bind_some, only_some}
 
 -- brackets, as they are read
-pub enclosed-sound : (opening close : Mark) (o : Word) (ws inner rest : List Word) → o.mark ≡ opening → enclosed close ws ≡ Some (inner, rest)
+pub enclosed-sound : (opening close : Mark) (o : Word) (ws inner rest : List Word)
+    → o.mark ≡ opening → enclosed close ws ≡ Some (inner, rest)
     → Encloses opening close (o ∷ ws) inner rest
 enclosed-sound opening close o ws inner rest is e =
     let found = is-enclosed close ws inner rest e in
-    subst (λ us. Encloses opening close (o ∷ us) inner rest) (sym found.3) (encloses o found.0 inner rest is found.1 found.2)
+    subst (λ us. Encloses opening close (o ∷ us) inner rest) (sym found.3)
+    (encloses o found.0 inner rest is found.1 found.2)
 
-pub alone-sound : (opening close : Mark) (o : Word) (ws inner : List Word) → o.mark ≡ opening → alone close ws ≡ Some inner
+pub alone-sound : (opening close : Mark) (o : Word) (ws inner : List Word) → o.mark ≡ opening
+    → alone close ws ≡ Some inner
     → Encloses opening close (o ∷ ws) inner []
 unfolding alone
 alone-sound opening close o ws inner is e =
@@ -25,11 +29,14 @@ alone-sound opening close o ws inner is e =
     enclosed-sound opening close o ws inner [] is (found.1 ∙ ap Some last)
 
 -- the words that are enclosed begin with the opening bracket, and are read
-pub opens-with : (opening close : Mark) (ws inner rest : List Word) → closes close ≡ true → Encloses opening close ws inner rest
-    → (o : Word) × (us : List Word) × (ws ≡ o ∷ us) × (o.mark ≡ opening) × (enclosed close us ≡ Some (inner, rest))
+pub opens-with : (opening close : Mark) (ws inner rest : List Word) → closes close ≡ true
+    → Encloses opening close ws inner rest
+    → (o : Word) × (us : List Word) × (ws ≡ o ∷ us) × (o.mark ≡ opening)
+    × (enclosed close us ≡ Some (inner, rest))
 opens-with opening close _ _ _ closed (encloses o c inner rest is ended nests) =
     (o, inner ++ c ∷ rest, refl, is, enclosed-is close inner c rest closed ended nests)
 
-pub alone-complete : (close : Mark) (us inner : List Word) → enclosed close us ≡ Some (inner, []) → alone close us ≡ Some inner
+pub alone-complete : (close : Mark) (us inner : List Word) → enclosed close us ≡ Some (inner, [])
+    → alone close us ≡ Some inner
 unfolding alone
 alone-complete close us inner e = rw e refl

@@ -1,5 +1,10 @@
+mod MatchedWords
 mod Closed
 mod Closing
+mod Cuts
+mod EntryLists
+mod FieldNames
+mod Levels
 mod MemberLaws
 mod Options
 mod ParamLaws

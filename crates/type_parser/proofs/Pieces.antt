@@ -1,5 +1,7 @@
 -- Lists that are cut at separators.
-use Rattle.std.proofs.Common.{◌≡◌, ◌≢◌, ◌∙◌, ap, sym, refl, subst, ℕ, zero, suc, ◌+◌, Bool, true, false, cond, ◌&&◌, ◌==◌, List, [], ◌∷◌, ◌++◌, append_assoc, append-nil, length, take, drop, arith, ◌-◌, ◌≤◌, ◌<◌, take_all, Option, Some, None, unwrap_or, option_copied, slice_get, Bor}
+use Rattle.std.proofs.Common.{◌≡◌, ◌∙◌, ap, sym, refl, ℕ, Bool, true}
+use Rattle.std.proofs.Common.{false, ◌&&◌, ◌==◌, List, [], ◌∷◌, ◌++◌, append_assoc}
+use Rattle.std.proofs.Common.{append-nil, length, take, drop, arith, ◌-◌, ◌≤◌, ◌<◌, take_all}
 use Rattle.go_ast.specs.declared.word.Word.{Word}
 use Rattle.go_ast.specs.declared.word.Mark.{Mark}
 use Rattle.go_ast.specs.Cutting.{depth_after, pieces_from, pieces}
@@ -11,57 +13,77 @@ abbrev pub cuts : Mark → ℕ → Word → Bool
 cuts mark depth w = depth == 0 && same_mark w.mark mark
 
 -- up to the first separator there is one piece
-pieces_from-more : (mark : Mark) (depth : ℕ) (front ws : List Word) (s : Word) (rest : List Word) → drop (before mark depth ws) ws ≡ s ∷ rest
-    → pieces_from mark depth front ws ≡ (front ++ take (before mark depth ws) ws) ∷ pieces_from mark 0 [] rest
+pieces_from-more : (mark : Mark) (depth : ℕ) (front ws : List Word) (s : Word) (rest : List Word)
+    → drop (before mark depth ws) ws ≡ s ∷ rest
+    → pieces_from mark depth front ws ≡ (front ++ take (before mark depth ws) ws)
+    ∷ pieces_from mark 0 [] rest
 pieces_from-more mark depth front [] s rest e = absurd (cc)
-pieces_from-more mark depth front (w ∷ ws) s rest e = go (cuts mark depth w) refl (pieces_from-more mark (depth_after depth w.mark) (front ++ w ∷ []) ws s rest)
+pieces_from-more mark depth front (w ∷ ws) s rest e =
+    go (cuts mark depth w) refl
+    (pieces_from-more mark (depth_after depth w.mark) (front ++ w ∷ []) ws s rest)
   where
     go : (t : Bool) → cuts mark depth w ≡ t
         → (drop (before mark (depth_after depth w.mark) ws) ws ≡ s ∷ rest
-        → pieces_from mark (depth_after depth w.mark) (front ++ w ∷ []) ws ≡ ((front ++ w ∷ []) ++ take (before mark (depth_after depth w.mark) ws) ws) ∷ pieces_from mark 0 [] rest)
-        → pieces_from mark depth front (w ∷ ws) ≡ (front ++ take (before mark depth (w ∷ ws)) (w ∷ ws)) ∷ pieces_from mark 0 [] rest
+        → pieces_from mark (depth_after depth w.mark) (front ++ w ∷ []) ws
+        ≡ ((front ++ w ∷ []) ++ take (before mark (depth_after depth w.mark) ws) ws)
+        ∷ pieces_from mark 0 [] rest)
+        → pieces_from mark depth front (w ∷ ws)
+        ≡ (front ++ take (before mark depth (w ∷ ws)) (w ∷ ws)) ∷ pieces_from mark 0 [] rest
     go true h ih = let same : ws ≡ rest = cc (rw h at e) in rw (h, append-nil, same) refl
     go false h ih = rw (h, ih (rw h at e), append_assoc) refl
 
 -- without one there is one piece in all
-pieces_from-last : (mark : Mark) (depth : ℕ) (front : List Word) (w : Word) (ws : List Word) → drop (before mark depth (w ∷ ws)) (w ∷ ws) ≡ []
+pieces_from-last : (mark : Mark) (depth : ℕ) (front : List Word) (w : Word) (ws : List Word)
+    → drop (before mark depth (w ∷ ws)) (w ∷ ws) ≡ []
     → pieces_from mark depth front (w ∷ ws) ≡ (front ++ w ∷ ws) ∷ []
 pieces_from-last mark depth front w [] e = go (cuts mark depth w) refl
   where
-    one : (us : List Word) → pieces_from mark (depth_after depth w.mark) (us ++ w ∷ []) [] ≡ (us ++ w ∷ []) ∷ []
+    one : (us : List Word) → pieces_from mark (depth_after depth w.mark) (us ++ w ∷ []) []
+        ≡ (us ++ w ∷ []) ∷ []
     one [] = refl
     one (u ∷ us) = refl
 
-    go : (t : Bool) → cuts mark depth w ≡ t → pieces_from mark depth front (w ∷ []) ≡ (front ++ w ∷ []) ∷ []
+    go : (t : Bool) → cuts mark depth w ≡ t
+        → pieces_from mark depth front (w ∷ []) ≡ (front ++ w ∷ []) ∷ []
     go true h = absurd (cc (rw h at e))
     go false h = rw h (one front)
-pieces_from-last mark depth front w (v ∷ vs) e = go (cuts mark depth w) refl (pieces_from-last mark (depth_after depth w.mark) (front ++ w ∷ []) v vs)
+pieces_from-last mark depth front w (v ∷ vs) e =
+    go (cuts mark depth w) refl
+    (pieces_from-last mark (depth_after depth w.mark) (front ++ w ∷ []) v vs)
   where
     go : (t : Bool) → cuts mark depth w ≡ t
         → (drop (before mark (depth_after depth w.mark) (v ∷ vs)) (v ∷ vs) ≡ []
-        → pieces_from mark (depth_after depth w.mark) (front ++ w ∷ []) (v ∷ vs) ≡ ((front ++ w ∷ []) ++ v ∷ vs) ∷ [])
+        → pieces_from mark (depth_after depth w.mark) (front ++ w ∷ []) (v ∷ vs)
+        ≡ ((front ++ w ∷ []) ++ v ∷ vs) ∷ [])
         → pieces_from mark depth front (w ∷ v ∷ vs) ≡ (front ++ w ∷ v ∷ vs) ∷ []
     go true h ih = absurd (cc (rw h at e))
-    go false h ih = rw h (ih (rw h at e) ∙ ap (λ us. us ∷ []) (append_assoc front (w ∷ []) (v ∷ vs)))
+    go false h ih = rw h (ih (rw h at e)
+        ∙ ap (λ us. us ∷ []) (append_assoc front (w ∷ []) (v ∷ vs)))
 
-pub pieces-more : (mark : Mark) (ws : List Word) (s : Word) (rest : List Word) → drop (before mark 0 ws) ws ≡ s ∷ rest → pieces mark ws ≡ take (before mark 0 ws) ws ∷ pieces mark rest
+pub pieces-more : (mark : Mark) (ws : List Word) (s : Word) (rest : List Word)
+    → drop (before mark 0 ws) ws ≡ s ∷ rest
+    → pieces mark ws ≡ take (before mark 0 ws) ws ∷ pieces mark rest
 unfolding pieces
 pieces-more mark ws s rest e = pieces_from-more mark 0 [] ws s rest e
 
-pub pieces-last : (mark : Mark) (w : Word) (ws : List Word) → drop (before mark 0 (w ∷ ws)) (w ∷ ws) ≡ [] → pieces mark (w ∷ ws) ≡ (w ∷ ws) ∷ pieces mark []
+pub pieces-last : (mark : Mark) (w : Word) (ws : List Word)
+    → drop (before mark 0 (w ∷ ws)) (w ∷ ws) ≡ [] → pieces mark (w ∷ ws) ≡ (w ∷ ws) ∷ pieces mark []
 unfolding pieces
 pieces-last mark w ws e = pieces_from-last mark 0 [] w ws e
 
 -- as the code cuts: a part before a separator, and the part from it on
-pub piece-then : (mark : Mark) (ws front back : List Word) (n : ℕ) → n ≡ before mark 0 ws → front ≡ take n ws → back ≡ drop n ws → 1 ≤ length back
+pub piece-then : (mark : Mark) (ws front back : List Word) (n : ℕ) → n ≡ before mark 0 ws
+    → front ≡ take n ws → back ≡ drop n ws → 1 ≤ length back
     → pieces mark ws ≡ front ∷ pieces mark (take (length back - 1) (drop 1 back))
 piece-then mark ws front [] n is f b some = absurd (omega arith)
 piece-then mark ws front (s ∷ rest) n is f b some =
     let at : drop (before mark 0 ws) ws ≡ s ∷ rest = rw is at (sym b) in
-    let whole : take (length (s ∷ rest) - 1) rest ≡ rest = take_all (length (s ∷ rest) - 1) rest (omega arith) in
+    let whole : take (length (s ∷ rest) - 1) rest ≡ rest =
+    take_all (length (s ∷ rest) - 1) rest (omega arith) in
     rw (whole, f, is) (pieces-more mark ws s rest at)
 
-pub piece-all : (mark : Mark) (ws back : List Word) (n : ℕ) → 0 < length ws → n ≡ before mark 0 ws → back ≡ drop n ws → length back < 1
+pub piece-all : (mark : Mark) (ws back : List Word) (n : ℕ) → 0 < length ws → n ≡ before mark 0 ws
+    → back ≡ drop n ws → length back < 1
     → pieces mark ws ≡ ws ∷ pieces mark []
 piece-all mark [] back n some is b none = absurd (omega arith)
 piece-all mark (w ∷ ws) [] n some is b none = pieces-last mark w ws (rw is at (sym b))

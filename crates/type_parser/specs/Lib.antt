@@ -1,3 +1,6 @@
 pub mod Cut
+pub mod Entries
+pub mod Matching
+pub mod Members
 pub mod Parts
 pub mod Reading

@@ -1,6 +1,7 @@
 -- The type that words spell, by one test after another: the plain program beside the grammar. Only
 -- proofs and private clauses use it.
-use Rattle.std.specs.Prelude.{ℕ, zero, suc, ◌+◌, Bool, true, false, List, [], ◌∷◌, ◌++◌, Option, Some, None, is_some, not, ◌&&◌, if◌then◌else◌}
+use Rattle.std.specs.Prelude.{ℕ, zero, suc, Bool, true, false, List, [], ◌∷◌, ◌++◌, Option}
+use Rattle.std.specs.Prelude.{Some, None, is_some, not, ◌&&◌, if◌then◌else◌}
 use Rattle.go_ast.specs.declared.tree.TypeExpr.{TypeExpr}
 use Rattle.go_ast.specs.declared.tree.TypeExpr.TheVariants as t
 use Rattle.go_ast.specs.declared.tree.ChanDir.{ChanDir}
@@ -99,10 +100,12 @@ module _ (f : List Word → Option TypeExpr) where
 
   unfoldable pub arguments : List Word → Option (List TypeExpr)
   arguments [] = Some []
-  arguments (w ∷ ws) = if same_mark w.mark m.OpenBracket then alone m.CloseBracket ws >>= list else None
+  arguments (w ∷ ws) = if same_mark w.mark m.OpenBracket then alone m.CloseBracket ws >>= list
+      else None
 
   unfoldable pub named : Option Span → Word → List Word → Option TypeExpr
-  named qualifier name ws = if same_mark name.mark m.Ident then t.Name qualifier name.span <$> arguments ws else None
+  named qualifier name ws = if same_mark name.mark m.Ident then t.Name qualifier name.span
+      <$> arguments ws else None
 
   -- after the dot
   abbrev pub qualified : Span → List Word → Option TypeExpr
@@ -111,7 +114,8 @@ module _ (f : List Word → Option TypeExpr) where
 
   unfoldable pub name : Word → List Word → Option TypeExpr
   name first [] = named None first []
-  name first (w ∷ ws) = if same_mark w.mark m.Dot then qualified first.span ws else named None first (w ∷ ws)
+  name first (w ∷ ws) = if same_mark w.mark m.Dot then qualified first.span ws
+      else named None first (w ∷ ws)
 
   -- after the opening bracket
   abbrev pub bracketed_of : List Word × List Word → Option TypeExpr
@@ -125,11 +129,16 @@ module _ (f : List Word → Option TypeExpr) where
 
   unfoldable pub map : List Word → Option TypeExpr
   map [] = None
-  map (w ∷ ws) = if same_mark w.mark m.OpenBracket then enclosed m.CloseBracket ws >>= map_of else None
+  map (w ∷ ws) = if same_mark w.mark m.OpenBracket then enclosed m.CloseBracket ws >>= map_of
+      else None
+
+  abbrev pub channel_of : ChanDir → List Word → Option TypeExpr
+  channel_of dir ws = t.Chan dir <$> f ws
 
   unfoldable pub channel : List Word → Option TypeExpr
   channel [] = None
-  channel (w ∷ ws) = if same_mark w.mark m.Arrow then t.Chan dirs.Send <$> f ws else t.Chan dirs.Both <$> f (w ∷ ws)
+  channel (w ∷ ws) = if same_mark w.mark m.Arrow then t.Chan dirs.Send <$> f ws
+      else t.Chan dirs.Both <$> f (w ∷ ws)
 
   unfoldable pub receiving : List Word → Option TypeExpr
   receiving [] = None
@@ -138,12 +147,14 @@ module _ (f : List Word → Option TypeExpr) where
   -- a type, or three dots and a type where they are allowed
   unfoldable pub typed : Bool → List Word → Option (TypeExpr × Bool)
   typed dots [] = None
-  typed dots (w ∷ ws) = if same_mark w.mark m.Ellipsis then (if dots then (λ x. (x, true)) <$> f ws else None) else (λ x. (x, false)) <$> f (w ∷ ws)
+  typed dots (w ∷ ws) = if same_mark w.mark m.Ellipsis
+      then (if dots then (λ x. (x, true)) <$> f ws else None) else (λ x. (x, false)) <$> f (w ∷ ws)
 
   -- a name before others
   abbrev pub sharing : Word → List Param → Option (List Param)
   sharing name [] = None
-  sharing name (p ∷ ps) = let next = out-Param p in if next.variadic then None else Some (param (Some name.span) next.typ false ∷ p ∷ ps)
+  sharing name (p ∷ ps) = let next = out-Param p in
+      if next.variadic then None else Some (param (Some name.span) next.typ false ∷ p ∷ ps)
 
   abbrev pub before_others : Word → List Word → List Param → Option (List Param)
   before_others name [] ps = sharing name ps
@@ -155,11 +166,13 @@ module _ (f : List Word → Option TypeExpr) where
   -- one entry, before those of some parameters
   unfoldable pub named_entry : Bool → List Word → Option (List Param) → Option (List Param)
   named_entry dots [] ps = None
-  named_entry dots (name ∷ ws) ps = if same_mark name.mark m.Ident then (ps >>= before_others name ws) else None
+  named_entry dots (name ∷ ws) ps = if same_mark name.mark m.Ident
+      then (ps >>= before_others name ws) else None
 
   unfoldable pub named_last : Bool → List Word → Option (List Param)
   named_last dots [] = None
-  named_last dots (name ∷ ws) = if same_mark name.mark m.Ident then last_named dots name ws else None
+  named_last dots (name ∷ ws) = if same_mark name.mark m.Ident then last_named dots name ws
+      else None
 
   abbrev pub with_names : Bool → List (List Word) → Option (List Param)
   with_names dots [] = None
@@ -169,7 +182,8 @@ module _ (f : List Word → Option TypeExpr) where
   abbrev pub without_names : Bool → List (List Word) → Option (List Param)
   without_names dots [] = Some []
   without_names dots (e ∷ []) = (λ x. param None x.0 x.1 ∷ []) <$> typed dots e
-  without_names dots (e ∷ d ∷ es) = without_names dots (d ∷ es) >>= λ ps. (λ x. param None x false ∷ ps) <$> f e
+  without_names dots (e ∷ d ∷ es) = without_names dots (d ∷ es)
+      >>= λ ps. (λ x. param None x false ∷ ps) <$> f e
 
   abbrev pub entries : Bool → List (List Word) → Option (List Param)
   entries dots es = if list_any looks_named es then with_names dots es else without_names dots es
@@ -178,7 +192,8 @@ module _ (f : List Word → Option TypeExpr) where
   params dots ws = entries dots (pieces m.Comma ws)
 
   abbrev pub result_of : List Word → Word → List Word → Option (List Param)
-  result_of ws v vs = if same_mark v.mark m.OpenParen then (alone m.CloseParen vs >>= params false) else (λ x. param None x false ∷ []) <$> f (v ∷ vs)
+  result_of ws v vs = if same_mark v.mark m.OpenParen then (alone m.CloseParen vs >>= params false)
+      else (λ x. param None x false ∷ []) <$> f (v ∷ vs)
 
   abbrev pub results : List Word → Option (List Param)
   results [] = Some []
@@ -189,14 +204,16 @@ module _ (f : List Word → Option TypeExpr) where
 
   unfoldable pub read_signature : List Word → Option Signature
   read_signature [] = None
-  read_signature (w ∷ ws) = if same_mark w.mark m.OpenParen then enclosed m.CloseParen ws >>= signature_of else None
+  read_signature (w ∷ ws) = if same_mark w.mark m.OpenParen then enclosed m.CloseParen ws
+      >>= signature_of else None
 
   -- the names and the type of a field
   abbrev pub declared : List Word → Option (List Span × TypeExpr)
   declared [] = None
   declared (name ∷ []) = None
   declared (name ∷ v ∷ vs) = if same_mark name.mark m.Ident
-      then (if same_mark v.mark m.Comma then with_name name.span <$> declared vs else one_name name.span <$> f (v ∷ vs)) else None
+      then (if same_mark v.mark m.Comma then with_name name.span <$> declared vs
+      else one_name name.span <$> f (v ∷ vs)) else None
 
   abbrev pub embedded : List Word → Option (List Span × TypeExpr)
   embedded ws = no_names <$> f ws
@@ -205,31 +222,38 @@ module _ (f : List Word → Option TypeExpr) where
   unfoldable pub field_body : List Word → Option (List Span × TypeExpr)
   field_body [] = None
   field_body (w ∷ []) = if same_mark w.mark m.Ident then embedded (w ∷ []) else None
-  field_body (w ∷ v ∷ vs) = if same_mark w.mark m.Star then (if same_mark v.mark m.Ident then embedded (w ∷ v ∷ vs) else None)
-      else (if looks_named (w ∷ v ∷ vs) then declared (w ∷ v ∷ vs) else (if same_mark w.mark m.Ident then embedded (w ∷ v ∷ vs) else None))
+  field_body (w ∷ v ∷ vs) = if same_mark w.mark m.Star
+      then (if same_mark v.mark m.Ident then embedded (w ∷ v ∷ vs) else None)
+      else (if looks_named (w ∷ v ∷ vs) then declared (w ∷ v ∷ vs)
+      else (if same_mark w.mark m.Ident then embedded (w ∷ v ∷ vs) else None))
 
   unfoldable pub read_field : List Word → Option Field
   read_field [] = None
-  read_field (w ∷ ws) = field_of (range_of w ws) (split_tag (w ∷ ws)).1 <$> field_body (split_tag (w ∷ ws)).0
+  read_field (w ∷ ws) = field_of (range_of w ws) (split_tag (w ∷ ws)).1
+      <$> field_body (split_tag (w ∷ ws)).0
 
   abbrev pub fields : List Word → Option TypeExpr
   fields inner = t.Struct <$> each read_field (pieces m.Semi inner)
 
   unfoldable pub structure : List Word → Option TypeExpr
   structure [] = None
-  structure (w ∷ ws) = if same_mark w.mark m.OpenBrace then alone m.CloseBrace ws >>= fields else None
+  structure (w ∷ ws) = if same_mark w.mark m.OpenBrace then alone m.CloseBrace ws >>= fields
+      else None
 
   unfoldable pub read_term : List Word → Option Term
   read_term [] = None
-  read_term (w ∷ ws) = if same_mark w.mark m.Tilde then term true <$> f ws else term false <$> f (w ∷ ws)
+  read_term (w ∷ ws) = if same_mark w.mark m.Tilde then term true <$> f ws else term false
+      <$> f (w ∷ ws)
 
   unfoldable pub read_terms : List Word → Option (List Term)
   read_terms [] = None
-  read_terms (w ∷ ws) = if same_mark (last_of w ws).mark m.Bar then None else each read_term (pieces m.Bar (w ∷ ws)) >>= not_empty
+  read_terms (w ∷ ws) = if same_mark (last_of w ws).mark m.Bar then None
+      else each read_term (pieces m.Bar (w ∷ ws)) >>= not_empty
 
   unfoldable pub read_element : List Word → Option Element
   read_element [] = None
-  read_element (w ∷ ws) = if is_method w ws then elements.Method (range_of w ws) w.span <$> read_signature ws
+  read_element (w ∷ ws) = if is_method w ws then elements.Method (range_of w ws) w.span
+      <$> read_signature ws
       else elements.Terms (range_of w ws) <$> read_terms (w ∷ ws)
 
   abbrev pub elements_of : List Word → Option TypeExpr
@@ -237,13 +261,17 @@ module _ (f : List Word → Option TypeExpr) where
 
   unfoldable pub interface : List Word → Option TypeExpr
   interface [] = None
-  interface (w ∷ ws) = if same_mark w.mark m.OpenBrace then alone m.CloseBrace ws >>= elements_of else None
+  interface (w ∷ ws) = if same_mark w.mark m.OpenBrace then alone m.CloseBrace ws >>= elements_of
+      else None
 
   abbrev pub function : List Word → Option TypeExpr
   function ws = t.Func <$> read_signature ws
 
   abbrev pub pointer : List Word → Option TypeExpr
   pointer ws = t.Pointer <$> f ws
+
+  abbrev pub in_parentheses : List Word → Option TypeExpr
+  in_parentheses ws = alone m.CloseParen ws >>= f
 
   -- by what the first word is
   abbrev pub by_mark : Mark → Word → List Word → Option TypeExpr
