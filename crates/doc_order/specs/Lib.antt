@@ -1,0 +1,2 @@
+pub mod Documentation
+pub mod Slots
