@@ -80,7 +80,7 @@ gained doc passed n = record doc {
   consts = doc.consts ++ one_if (passed Constants) n;
   vars = doc.vars ++ one_if (passed Variables) n;
   factories = doc.factories ++ one_if (passed Functions) n;
-  methods = doc.methods ++ one_if (passed Methods) n
+  methods = doc.methods ++ one_if (passed Methods) n;
 }
 
 nothing_gained : (doc : DocType) (n : ℕ) → doc ≡ gained doc (λ _. false) n
@@ -121,7 +121,7 @@ slot_gains kind t n s types d h false e =
 
 same_type : (shown : Bool) (kind : Kind) (place : Option ℕ) (n : ℕ) (old : Lists) (s : ℕ) (d : DocType) → s < length old.types
     → get_or (cond shown (with_number_in old kind place n) old).types s d
-        ≡ gained (get_or old.types s d) (λ wanted. passes shown kind place wanted (Some s)) n
+    ≡ gained (get_or old.types s d) (λ wanted. passes shown kind place wanted (Some s)) n
 same_type false kind place n old s d h = nothing_gained (get_or old.types s d) n
 same_type true kind None n old s d h = ap (λ types. get_or types s d) (package_types old kind n) ∙ other_kind (get_or old.types s d) kind n
 same_type true kind (Some t) n old s d h = slot_gains kind t n s old.types d h (eqb t s) refl
@@ -168,7 +168,7 @@ module _ (members : List Member) (slots : Name → Option ℕ) where
     consts = doc.consts ++ filter (listed Constants (Some s)) ns;
     vars = doc.vars ++ filter (listed Variables (Some s)) ns;
     factories = doc.factories ++ filter (listed Functions (Some s)) ns;
-    methods = doc.methods ++ filter (listed Methods (Some s)) ns
+    methods = doc.methods ++ filter (listed Methods (Some s)) ns;
   }
 
   grown_step : (s : ℕ) (doc : DocType) (n : ℕ) (ns : List ℕ) → grown s (gained doc (λ wanted. listed wanted (Some s) n) n) ns ≡ grown s doc (n ∷ ns)
@@ -177,7 +177,7 @@ module _ (members : List Member) (slots : Name → Option ℕ) where
     consts = filter_step (listed Constants (Some s)) doc.consts n ns (listed Constants (Some s) n) i;
     vars = filter_step (listed Variables (Some s)) doc.vars n ns (listed Variables (Some s) n) i;
     factories = filter_step (listed Functions (Some s)) doc.factories n ns (listed Functions (Some s) n) i;
-    methods = filter_step (listed Methods (Some s)) doc.methods n ns (listed Methods (Some s) n) i
+    methods = filter_step (listed Methods (Some s)) doc.methods n ns (listed Methods (Some s) n) i;
   }
 
   grown_none : (s : ℕ) (doc : DocType) → doc ≡ grown s doc []

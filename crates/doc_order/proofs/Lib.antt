@@ -4,3 +4,4 @@ pub mod OrderLemmas
 pub mod FillLemmas
 pub mod TypeLemmas
 pub mod PlaceLemmas
+pub mod LawLemmas

@@ -79,6 +79,7 @@ module _ (name : Name) (names : List (Bor Name)) (place : ℕ) where
   slot-none sorted d h unlike point =
       position-map (λ other. bytes_eq other name) (λ it. it.now) names
       ∙ position-none _ names (λ k e l. elim (cases_lt k place) [
-          inl less ↦ below_unlike point.0 k e less
+        | inl less ↦ below_unlike point.0 k e less
         | inr more ↦ rw (get_or_default names k e d l) (greater_unlike sorted d
-            (point.1 place d (omega arith) h) unlike k more l) ])
+            (point.1 place d (omega arith) h) unlike k more l)
+      ])

@@ -94,7 +94,6 @@ distinct_at (x ∷ xs) h zero (suc j) d l m = All-from_recursion (λ y. eqb x y 
 distinct_at (x ∷ xs) h (suc i) zero d l m = absurd (omega arith)
 distinct_at (x ∷ xs) h (suc i) (suc j) d l m = distinct_at xs h.1 i j d (omega arith) (omega arith)
 
-
 module _ (members : List Member) (entries sorted : List Entry)
     (made : map (λ it. (it.1, it.0.now)) entries ≡ enumerate_from 0 (map key_of members))
     (moved : IsPermutation entries sorted) (rising : IsSorted entry_cmp sorted) where
@@ -135,13 +134,13 @@ module _ (members : List Member) (entries sorted : List Entry)
   numbers_distinct : IsDistinct eqb (map (λ (entry : Entry). entry.1) sorted)
   numbers_distinct =
       IsDistinct-IsPermutation eqb nat_eq_equiv.symm (map (λ (entry : Entry). entry.1) entries) _ numbers_moved
-          (subst (IsDistinct eqb) (sym (as_paired entries ∙ ap (map (λ (p : ℕ × Name). p.0)) made)) (enumerated_distinct 0 (map key_of members)))
+      (subst (IsDistinct eqb) (sym (as_paired entries ∙ ap (map (λ (p : ℕ × Name). p.0)) made)) (enumerated_distinct 0 (map key_of members)))
 
   numbers_within : (n : ℕ) → Contains (map (λ (entry : Entry). entry.1) sorted) n → n < length members
   unfolding fits
   numbers_within n h =
       All-contains (λ m. m < length members) (map (λ (entry : Entry). entry.1) sorted) n
-          (All-map (λ m. m < length members) (λ (entry : Entry). entry.1) sorted (All-weaker fits (λ x. x.1 < length members) (λ x f. f.0) sorted sorted_fit)) h
+      (All-map (λ m. m < length members) (λ (entry : Entry). entry.1) sorted (All-weaker fits (λ x. x.1 < length members) (λ x f. f.0) sorted sorted_fit)) h
 
   numbers_there : (n : ℕ) → n < length members → Contains (map (λ (entry : Entry). entry.1) sorted) n
   numbers_there n h =
@@ -150,7 +149,7 @@ module _ (members : List Member) (entries sorted : List Entry)
       let is = made_at n found.0 h (found.1 found.0) in
       let within : n < length (map (λ (entry : Entry). entry.1) entries) = rw (mapped_length (λ (entry : Entry). entry.1) entries) at in
       Contains-permutation (map (λ (entry : Entry). entry.1) entries) _ n numbers_moved
-          (n, within, mapped_at (λ (entry : Entry). entry.1) entries n n found.0 at (found.1 found.0) ∙ is.0)
+      (n, within, mapped_at (λ (entry : Entry). entry.1) entries n n found.0 at (found.1 found.0) ∙ is.0)
 
   before : (x y : Entry) → fits x → fits y → entry_cmp x y ≡ Less → IsBefore members x.1 y.1
   unfolding fits
@@ -170,14 +169,14 @@ module _ (members : List Member) (entries sorted : List Entry)
       let a : get_or (map (λ (entry : Entry). entry.1) sorted) i d ≡ x.0.1 = mapped_at (λ (entry : Entry). entry.1) sorted i d x.0 first (x.1 x.0) in
       let b : get_or (map (λ (entry : Entry). entry.1) sorted) j d ≡ y.0.1 = mapped_at (λ (entry : Entry). entry.1) sorted j d y.0 at (y.1 y.0) in
       let apart : eqb x.0.1 y.0.1 ≡ false =
-          subst (λ p. eqb p y.0.1 ≡ false) a (subst (λ q. eqb (get_or (map (λ (entry : Entry). entry.1) sorted) i d) q ≡ false) b (distinct_at _ numbers_distinct i j d l m)) in
+      subst (λ p. eqb p y.0.1 ≡ false) a (subst (λ q. eqb (get_or (map (λ (entry : Entry). entry.1) sorted) i d) q ≡ false) b (distinct_at _ numbers_distinct i j d l m)) in
       let less : entry_cmp x.0 y.0 ≡ Less =
-          rises (entry_cmp x.0 y.0) (entry_cmp y.0 x.0) (entries_total.antisymm y.0 x.0) here
-              (λ e. let same : eqb x.0.1 y.0.1 ≡ true = eq-eqb x.0.1 y.0.1 (same_number x.0.1 y.0.1 (second_tied _ _ e)) in cc) in
+      rises (entry_cmp x.0 y.0) (entry_cmp y.0 x.0) (entries_total.antisymm y.0 x.0) here
+      (λ e. let same : eqb x.0.1 y.0.1 ≡ true = eq-eqb x.0.1 y.0.1 (same_number x.0.1 y.0.1 (second_tied _ _ e)) in cc) in
       let fx : fits x.0 = subst fits (x.1 x.0) (sorted_fit i x.0 first) in
       let fy : fits y.0 = subst fits (y.1 y.0) (sorted_fit j y.0 at) in
       subst (λ p. IsBefore members p (get_or (map (λ (entry : Entry). entry.1) sorted) j d)) (sym a)
-          (subst (λ q. IsBefore members x.0.1 q) (sym b) (before x.0 y.0 fx fy less))
+      (subst (λ q. IsBefore members x.0.1 q) (sym b) (before x.0 y.0 fx fy less))
 
   pub numbers_sorted : IsSortedFilter (λ _. true) members (map (λ (entry : Entry). entry.1) sorted)
   numbers_sorted = record {

@@ -100,7 +100,7 @@ module _ (first slots : Name → Option ℕ) (g : ℕ → ℕ) (n : ℕ)
   pub same_type : (kind : Kind) (s : ℕ) → s < n → (m : Member) → stands_in slots kind (Some s) m ≡ stands_in first kind (Some (g s)) m
   same_type kind s h m =
       let test : option_eq nat_eq (place_of first m) (Some (g s)) ≡ option_eq nat_eq (place_of slots m) (Some s) =
-          ap (λ o. option_eq nat_eq o (Some (g s))) (same_place m) ∙ same_test s h m (place_of slots m) refl in
+      ap (λ o. option_eq nat_eq o (Some (g s))) (same_place m) ∙ same_test s h m (place_of slots m) refl in
       λ i. sym (same_shown m) i && same_kind (kind_of m) kind && sym test i
 
   none_test : (o : Option ℕ) → option_eq nat_eq (option_map g o) None ≡ option_eq nat_eq o None
@@ -110,7 +110,7 @@ module _ (first slots : Name → Option ℕ) (g : ℕ → ℕ) (n : ℕ)
   pub same_package : (kind : Kind) (m : Member) → stands_in slots kind None m ≡ stands_in first kind None m
   same_package kind m =
       let test : option_eq nat_eq (place_of first m) None ≡ option_eq nat_eq (place_of slots m) None =
-          ap (λ o. option_eq nat_eq o None) (same_place m) ∙ none_test (place_of slots m) in
+      ap (λ o. option_eq nat_eq o None) (same_place m) ∙ none_test (place_of slots m) in
       λ i. sym (same_shown m) i && same_kind (kind_of m) kind && sym test i
 
 never : (a b : Bool) → ((a && false) && b) ≡ false
@@ -122,13 +122,15 @@ always true = refl
 always false = refl
 
 pub types_listed : (first : Name → Option ℕ) (m : Member) → is_exported_type m ≡ stands_in first Types None m
-types_listed first (Value true specs) = sym (never _ _)
-types_listed first (Value false specs) = sym (never _ _)
+types_listed first (Value true specs) =
+    sym (never (list_any (λ spec. list_any is_exported_name spec.names) specs) (option_eq nat_eq (place_of first (Value true specs)) None))
+types_listed first (Value false specs) =
+    sym (never (list_any (λ spec. list_any is_exported_name spec.names) specs) (option_eq nat_eq (place_of first (Value false specs)) None))
 types_listed first (TypeDef name) = sym (always (is_exported_name name))
-types_listed first (Func name results) = sym (never (is_exported_name name) _)
-types_listed first (Method name base) = sym (never (is_exported_name name && is_some (first base)) _)
+types_listed first (Func name results) = sym (never (is_exported_name name) (option_eq nat_eq (only (filter_map first results)) None))
+types_listed first (Method name base) = sym (never (is_exported_name name && is_some (first base)) (option_eq nat_eq (first base) None))
 
-agree_at : (p q : Member → Bool) → ((m : Member) → p m ≡ q m) → (o : Option Member) → option_map_or p o false ≡ option_map_or q o false
+pub agree_at : (p q : Member → Bool) → ((m : Member) → p m ≡ q m) → (o : Option Member) → option_map_or p o false ≡ option_map_or q o false
 agree_at p q same None = refl
 agree_at p q same (Some m) = same m
 
@@ -137,8 +139,8 @@ pub agreed_filter : (p q : Member → Bool) (members : List Member) (numbers : L
     → IsSortedFilter (λ _. true) members numbers → IsSortedFilter q members (filter (at_number p false members) numbers)
 agreed_filter p q members numbers same all =
     subst (IsSortedFilter q members)
-        (sym (filter_agree (at_number p false members) (at_number q false members) (λ n. agree_at p q same (slice_get members n)) numbers))
-        (sorted_filter q members numbers all)
+    (sym (filter_agree (at_number p false members) (at_number q false members) (λ n. agree_at p q same (slice_get members n)) numbers))
+    (sorted_filter q members numbers all)
 
 same_list : (xs ys : List ℕ) → length xs ≡ length ys → ((k : ℕ) → k < length xs → get_or xs k 0 ≡ get_or ys k 0) → xs ≡ ys
 same_list [] [] e h = refl
@@ -151,30 +153,28 @@ same_list (x ∷ xs) (y ∷ ys) e h =
 abbrev pub start : List ℕ → Lists
 start types = record { consts = []; vars = []; funcs = []; types = map bare_type types }
 
-abbrev pub package : Lists → DocPackage
-package lists = record { consts = lists.consts; vars = lists.vars; funcs = lists.funcs; types = lists.types }
+abbrev pub filled_doc : Lists → DocPackage
+filled_doc lists = record { consts = lists.consts; vars = lists.vars; funcs = lists.funcs; types = lists.types }
 
 module _ (members : List Member) (numbers types : List ℕ) (names : List Name) (all : IsSortedFilter (λ _. true) members numbers)
     (typed : types ≡ filter (at_number is_exported_type false members) numbers)
     (named : names ≡ map (at_number key_of [] members) types) where
-
   grown_is : (s : ℕ) → s < length types → IsDocType members (grown members (slot_of names) s (bare_type (get_or types s 0)) numbers)
   unfolding grown
   grown_is s h =
       let means = λ (kind : Kind).
-          agreed_filter (stands_in (slot_of names) kind (Some s)) (stands_in (type_of members) kind (Some (get_or types s 0))) members numbers
-              (same_type (type_of members) (slot_of names) (λ t. get_or types t 0) (length types)
-                  (same_slot members numbers types names all typed named) (slot_within members numbers types names all typed named)
-                  (slots_apart members numbers types names all typed named) kind s h) all in
+      agreed_filter (stands_in (slot_of names) kind (Some s)) (stands_in (type_of members) kind (Some (get_or types s 0))) members numbers
+      (same_type (type_of members) (slot_of names) (λ t. get_or types t 0) (length types)
+      (same_slot members numbers types names all typed named) (slot_within members numbers types names all typed named)
+      (slots_apart members numbers types names all typed named) kind s h) all in
       record { consts = means Constants; vars = means Variables; factories = means Functions; methods = means Methods }
 
   in_package : (kind : Kind) → IsListOf kind None members (filter (at_number (stands_in (slot_of names) kind None) false members) numbers)
   in_package kind =
       agreed_filter (stands_in (slot_of names) kind None) (stands_in (type_of members) kind None) members numbers
-          (same_package (type_of members) (slot_of names) (λ t. get_or types t 0) (length types)
-              (same_slot members numbers types names all typed named) (slot_within members numbers types names all typed named)
-              (slots_apart members numbers types names all typed named) kind) all
-
+      (same_package (type_of members) (slot_of names) (λ t. get_or types t 0) (length types)
+      (same_slot members numbers types names all typed named) (slot_within members numbers types names all typed named)
+      (slots_apart members numbers types names all typed named) kind) all
 
   grown_member : (s : ℕ) (doc : DocType) (ns : List ℕ) → (grown members (slot_of names) s doc ns).member ≡ doc.member
   unfolding grown
@@ -182,11 +182,11 @@ module _ (members : List Member) (numbers types : List ℕ) (names : List Name) 
 
   type_at : (s : ℕ) (d : DocType) → s < length types
       → get_or (fold (with_member_at members (slot_of names)) (start types) numbers).types s d
-          ≡ grown members (slot_of names) s (bare_type (get_or types s 0)) numbers
+      ≡ grown members (slot_of names) s (bare_type (get_or types s 0)) numbers
   type_at s d h =
       let x = element_at types s h in
       let bare : get_or (map bare_type types) s d ≡ bare_type (get_or types s 0) =
-          mapped_at bare_type types s d x.0 h (x.1 x.0) ∙ ap bare_type (sym (x.1 0)) in
+      mapped_at bare_type types s d x.0 h (x.1 x.0) ∙ ap bare_type (sym (x.1 0)) in
       filled_type members (slot_of names) numbers (start types) s d (rw (mapped_length bare_type types) h)
       ∙ ap (λ doc. grown members (slot_of names) s doc numbers) bare
 
@@ -198,13 +198,13 @@ module _ (members : List Member) (numbers types : List ℕ) (names : List Name) 
       let docs : List DocType = (fold (with_member_at members (slot_of names)) (start types) numbers).types in
       let member : DocType → ℕ = λ it. it.member in
       same_list (map member docs) types (mapped_length member docs ∙ slot_count) (λ k l.
-          let at : k < length docs = rw (← (mapped_length member docs)) l in
-          let inside : k < length types = rw (← slot_count) at in
-          let x = element_at docs k at in
-          mapped_at member docs k 0 x.0 at (x.1 x.0) ∙ ap member (sym (x.1 x.0) ∙ type_at k x.0 inside)
-          ∙ grown_member k (bare_type (get_or types k 0)) numbers)
+      let at : k < length docs = rw (← (mapped_length member docs)) l in
+      let inside : k < length types = rw (← slot_count) at in
+      let x = element_at docs k at in
+      mapped_at member docs k 0 x.0 at (x.1 x.0) ∙ ap member (sym (x.1 x.0) ∙ type_at k x.0 inside)
+      ∙ grown_member k (bare_type (get_or types k 0)) numbers)
 
-  pub documented : IsDocOf members (package (fold (with_member_at members (slot_of names)) (start types) numbers))
+  pub documented : IsDocOf members (filled_doc (fold (with_member_at members (slot_of names)) (start types) numbers))
   documented = record {
     consts = subst (IsListOf Constants None members) (sym (filled_consts members (slot_of names) numbers (start types))) (in_package Constants);
     vars = subst (IsListOf Variables None members) (sym (filled_vars members (slot_of names) numbers (start types))) (in_package Variables);

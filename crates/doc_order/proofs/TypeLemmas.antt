@@ -23,7 +23,7 @@ use Rattle.doc_order.specs.Slots.{is_exported_type, slot_of}
 use Rattle.doc_order.proofs.ListLemmas.{position-at, position-none}
 use Rattle.doc_order.proofs.OrderLemmas.{element_at, mapped_at, mapped_length, at_number-within, within-at_number}
 
-both : (a b : Bool) → (a && b) ≡ true → (a ≡ true) × (b ≡ true)
+pub both : (a b : Bool) → (a && b) ≡ true → (a ≡ true) × (b ≡ true)
 both true true e = (refl, refl)
 both true false e = cc
 both false b e = cc
@@ -72,7 +72,8 @@ pub sorted_filter : (wanted : Member → Bool) (members : List Member) (numbers 
 sorted_filter wanted members numbers all = record {
   exactly = λ n. (
     λ h. All-contains (λ m. at_number wanted false members m ≡ true) _ n (filter_passes (at_number wanted false members) numbers) h,
-    λ e. Contains-filter (at_number wanted false members) numbers n ((all.exactly n).1 (at_true members n (within-at_number wanted members n e))) e);
+    λ e. Contains-filter (at_number wanted false members) numbers n ((all.exactly n).1 (at_true members n (within-at_number wanted members n e))) e,
+  );
   rising = AllPairs-filter (IsBefore members) (at_number wanted false members) numbers all.rising;
 }
 
@@ -82,14 +83,14 @@ before_itself : (members : List Member) (n : ℕ) → IsBefore members n n → �
 before_itself members n h =
     let key = at_number key_of [] members n in
     let tied : ordering_then (slice_cmp nat_cmp key key) (nat_cmp n n) ≡ Equal =
-        ap (λ o. ordering_then o (nat_cmp n n)) (tied_itself nat_list_cmp_total key) ∙ tied_itself nat_cmp_total n in
+    ap (λ o. ordering_then o (nat_cmp n n)) (tied_itself nat_list_cmp_total key) ∙ tied_itself nat_cmp_total n in
+    let clash : Less ≡ Equal = sym h ∙ tied in
     cc
 
 first_less : (o p : Ordering) → ordering_then o p ≡ Less → is_lt (ordering_reverse o) ≡ false
 first_less Less p e = refl
 first_less Equal p e = refl
 first_less Greater p e = cc
-
 
 -- names of members in order are sorted
 module _ (members : List Member) (types : List ℕ) (names : List Name)
@@ -114,19 +115,19 @@ names_sorted members types names named rising k d l h =
     let x = element_at names k (omega arith) in
     let y = element_at names (k + 1) h in
     let first : (get_or names k d).now ≡ key (get_or types k 0) =
-        ap now (x.1 d) ∙ sym (mapped_at now names k [] x.0 (omega arith) (x.1 x.0)) ∙ named_at members types (map now names) named k [] (omega arith) in
+    ap now (x.1 d) ∙ sym (mapped_at now names k [] x.0 (omega arith) (x.1 x.0)) ∙ named_at members types (map now names) named k [] (omega arith) in
     let second : (get_or names (k + 1) d).now ≡ key (get_or types (k + 1) 0) =
-        ap now (y.1 d) ∙ sym (mapped_at now names (k + 1) [] y.0 h (y.1 y.0)) ∙ named_at members types (map now names) named (k + 1) [] inside in
+    ap now (y.1 d) ∙ sym (mapped_at now names (k + 1) [] y.0 h (y.1 y.0)) ∙ named_at members types (map now names) named (k + 1) [] inside in
     let before : IsBefore members (get_or types k 0) (get_or types (k + 1) 0) = rising k (k + 1) 0 (omega arith) inside in
     let falls : is_lt (slice_cmp nat_cmp (key (get_or types (k + 1) 0)) (key (get_or types k 0))) ≡ false =
-        ap is_lt (nat_list_cmp_total.antisymm (key (get_or types (k + 1) 0)) (key (get_or types k 0)))
-        ∙ first_less (slice_cmp nat_cmp (key (get_or types k 0)) (key (get_or types (k + 1) 0))) (nat_cmp (get_or types k 0) (get_or types (k + 1) 0)) before in
+    ap is_lt (nat_list_cmp_total.antisymm (key (get_or types (k + 1) 0)) (key (get_or types k 0)))
+    ∙ first_less (slice_cmp nat_cmp (key (get_or types k 0)) (key (get_or types (k + 1) 0))) (nat_cmp (get_or types k 0) (get_or types (k + 1) 0)) before in
     ap (λ n. is_lt (slice_cmp nat_cmp n (get_or names k d).now)) second
     ∙ ap (λ n. is_lt (slice_cmp nat_cmp (key (get_or types (k + 1) 0)) n)) first ∙ falls
 
 -- types by their names
 
-named_parts : (name : Name) (m : Member) → is_type_named name m ≡ (is_exported_type m && bytes_eq (key_of m) name)
+pub named_parts : (name : Name) (m : Member) → is_type_named name m ≡ (is_exported_type m && bytes_eq (key_of m) name)
 named_parts name (Value constant specs) = refl
 named_parts name (TypeDef own) = refl
 named_parts name (Func own results) = refl
@@ -136,7 +137,7 @@ not_true : (b : Bool) → (b ≡ true → ⊥) → b ≡ false
 not_true true h = absurd (h refl)
 not_true false h = refl
 
-ands : (a b : Bool) → a ≡ true → b ≡ true → (a && b) ≡ true
+pub ands : (a b : Bool) → a ≡ true → b ≡ true → (a && b) ≡ true
 ands true b e f = f
 ands false b e f = cc
 
@@ -150,24 +151,26 @@ same_bytes (x ∷ xs) (y ∷ ys) e =
     let rest : xs ≡ ys = same_bytes xs ys parts.1 in
     ap (λ z. z ∷ xs) head ∙ ap (λ zs. y ∷ zs) rest
 
+none_step : {X : Type 0} (p : X → Bool) (x : X) (xs : List X) (b : Bool) → p x ≡ b → length (x ∷ xs) ≤ position_or_len p (x ∷ xs)
+    → (length xs ≤ position_or_len p xs → (k : ℕ) (d : X) → k < length xs → p (get_or xs k d) ≡ false)
+    → (k : ℕ) (d : X) → k < length (x ∷ xs) → p (get_or (x ∷ xs) k d) ≡ false
+none_step p x xs true e h rest k d l =
+    let none : position_or_len p (x ∷ xs) ≡ 0 = rw e in
+    absurd (omega arith)
+none_step p x xs false e h rest zero d l = e
+none_step p x xs false e h rest (suc k) d l =
+    let more : position_or_len p (x ∷ xs) ≡ 1 + position_or_len p xs = rw e in
+    rest (omega arith) k d (omega arith)
+
 none_below : {X : Type 0} (p : X → Bool) (xs : List X) → length xs ≤ position_or_len p xs → (k : ℕ) (d : X) → k < length xs → p (get_or xs k d) ≡ false
 none_below p [] h k d l = absurd (omega arith)
-none_below p (x ∷ xs) h k d l = none_step p x xs (p x) refl h k d l
-  where
-    none_step : {X : Type 0} (p : X → Bool) (x : X) (xs : List X) (b : Bool) → p x ≡ b → length (x ∷ xs) ≤ position_or_len p (x ∷ xs)
-        → (k : ℕ) (d : X) → k < length (x ∷ xs) → p (get_or (x ∷ xs) k d) ≡ false
-    none_step p x xs true e h k d l =
-        let none : position_or_len p (x ∷ xs) ≡ 0 = rw e in
-        absurd (omega arith)
-    none_step p x xs false e h zero d l = e
-    none_step p x xs false e h (suc k) d l =
-        let more : position_or_len p (x ∷ xs) ≡ 1 + position_or_len p xs = rw e in
-        none_below p xs (omega arith) k d (omega arith)
+none_below p (x ∷ xs) h k d l = none_step p x xs (p x) refl h (none_below p xs) k d l
 
 pub none_at : {X : Type 0} (p : X → Bool) (xs : List X) → position p xs ≡ None → (k : ℕ) (d : X) → k < length xs → p (get_or xs k d) ≡ false
 none_at p xs e = elim (cases_lt (position_or_len p xs) (length xs)) [
-    inl less ↦ absurd (let some : position p xs ≡ Some (position_or_len p xs) = rw lt-ltb (position_or_len p xs) (length xs) less in cc)
-  | inr more ↦ none_below p xs more ]
+  | inl less ↦ absurd (let some : position p xs ≡ Some (position_or_len p xs) = rw (lt-ltb (position_or_len p xs) (length xs) less) in cc)
+  | inr more ↦ none_below p xs more
+]
 
 module _ (members : List Member) (numbers types : List ℕ) (names : List Name) (all : IsSortedFilter (λ _. true) members numbers)
     (typed : types ≡ filter (at_number is_exported_type false members) numbers)
@@ -175,19 +178,16 @@ module _ (members : List Member) (numbers types : List ℕ) (names : List Name) 
   is_typed : (n : ℕ) → Contains types n → at_number is_exported_type false members n ≡ true
   is_typed n h =
       All-contains (λ m. at_number is_exported_type false members m ≡ true) _ n (filter_passes (at_number is_exported_type false members) numbers)
-          (subst (λ l. Contains l n) typed h)
+      (subst (λ l. Contains l n) typed h)
 
   has_slot : (n : ℕ) → at_number is_exported_type false members n ≡ true → Contains types n
   has_slot n e =
       subst (λ l. Contains l n) (sym typed)
-          (Contains-filter (at_number is_exported_type false members) numbers n
-              ((all.exactly n).1 (at_true members n (within-at_number is_exported_type members n e))) e)
+      (Contains-filter (at_number is_exported_type false members) numbers n
+      ((all.exactly n).1 (at_true members n (within-at_number is_exported_type members n e))) e)
 
   pub types_rise : AllPairs (IsBefore members) types
   types_rise = subst (AllPairs (IsBefore members)) (sym typed) (AllPairs-filter (IsBefore members) (at_number is_exported_type false members) numbers all.rising)
-
-  key : ℕ → Name
-  key n = at_number key_of [] members n
 
   named_test : (name : Name) (j : ℕ) (d : Member) → j < length members
       → is_type_named name (get_or members j d) ≡ (at_number is_exported_type false members j && bytes_eq (at_number key_of [] members j) name)
@@ -200,11 +200,14 @@ module _ (members : List Member) (numbers types : List ℕ) (names : List Name) 
   slot_named : (name : Name) (j : ℕ) (d : Member) → j < length members → is_type_named name (get_or members j d) ≡ true
       → (k : ℕ) × (k < length types) × (get_or types k 0 ≡ j) × (bytes_eq (get_or names k []) name ≡ true)
   slot_named name j d h e =
-      let parts = both _ _ (sym (named_test name j d h) ∙ e) in
+      let parts = both (at_number is_exported_type false members j) (bytes_eq (at_number key_of [] members j) name) (sym (named_test name j d h) ∙ e) in
       let slot = has_slot j parts.0 in
-      let is : get_or types slot.0 0 ≡ j = get_or_default types slot.0 0 j slot.1 ∙ slot.2 in
-      (slot.0, slot.1, is,
-          ap (λ own. bytes_eq own name) (named_at members types names named slot.0 [] slot.1 ∙ ap (at_number key_of [] members) is) ∙ parts.1)
+      let is : get_or types slot.0 0 ≡ j = get_or_default types slot.0 0 j slot.1 ∙ slot.2 in (
+        slot.0,
+        slot.1,
+        is,
+        ap (λ own. bytes_eq own name) (named_at members types names named slot.0 [] slot.1 ∙ ap (at_number key_of [] members) is) ∙ parts.1,
+      )
 
   no_type : (name : Name) → slot_of names name ≡ None → type_of members name ≡ None
   no_type name e = position-none (is_type_named name) members (λ j d h. not_true _ (λ f.
@@ -217,9 +220,9 @@ module _ (members : List Member) (numbers types : List ℕ) (names : List Name) 
   apart : (name : Name) (n i : ℕ) → IsBefore members n i → bytes_eq (at_number key_of [] members n) name ≡ true
       → bytes_eq (at_number key_of [] members i) name ≡ true → n < i
   apart name n i before e f =
-      let same : at_number key_of [] members n ≡ at_number key_of [] members i = same_bytes _ name e ∙ sym (same_bytes _ name f) in
+      let same : at_number key_of [] members n ≡ at_number key_of [] members i = same_bytes (at_number key_of [] members n) name e ∙ sym (same_bytes (at_number key_of [] members i) name f) in
       let tied : slice_cmp nat_cmp (at_number key_of [] members n) (at_number key_of [] members i) ≡ Equal =
-          ap (λ k. slice_cmp nat_cmp k (at_number key_of [] members i)) same ∙ tied_itself nat_list_cmp_total (at_number key_of [] members i) in
+      ap (λ k. slice_cmp nat_cmp k (at_number key_of [] members i)) same ∙ tied_itself nat_list_cmp_total (at_number key_of [] members i) in
       let less : nat_cmp n i ≡ Less = sym (ap (λ o. ordering_then o (nat_cmp n i)) tied) ∙ before in
       ranked n i Less (sym less)
 
@@ -231,24 +234,26 @@ module _ (members : List Member) (numbers types : List ℕ) (names : List Name) 
       let exported : at_number is_exported_type false members n ≡ true = is_typed n (Contains-get_or types s 0 inside) in
       let within : n < length members = within-at_number is_exported_type members n exported in
       let alike : bytes_eq (at_number key_of [] members n) name ≡ true =
-          ap (λ own. bytes_eq own name) (sym (named_at members types names named s [] inside)) ∙ first.1 in
+      ap (λ own. bytes_eq own name) (sym (named_at members types names named s [] inside)) ∙ first.1 in
       let m = element_at members n within in
       position-at (is_type_named name) members n m.0 within
-          (named_test name n m.0 within ∙ ands _ _ exported alike)
-          (λ i l. not_true _ (λ f.
-              let slot = slot_named name i m.0 (omega arith) f in
-              let k : ℕ = slot.0 in
-              let is : get_or types k 0 ≡ i = slot.2 in
-              let same : bytes_eq (get_or names k []) name ≡ true = slot.3 in
-              let own : bytes_eq (at_number key_of [] members i) name ≡ true =
-                  ap (λ o. bytes_eq o name) (ap (at_number key_of [] members) (sym is) ∙ sym (named_at members types names named k [] slot.1)) ∙ same in
-              elim (cases_lt k s) [
-                inl less ↦ (let unlike : bytes_eq (get_or names k []) name ≡ false = first.2 k less in cc)
-              | inr more ↦ elim (cases_lt s k) [
-                  inl later ↦ (let rises : IsBefore members n (get_or types k 0) = types_rise s k 0 later slot.1 in
-                      let after : n < i = apart name n i (subst (λ j. IsBefore members n j) is rises) alike own in omega arith)
-                | inr no_later ↦ (let at : k ≡ s = omega arith in
-                      let here : n ≡ i = ap (λ j. get_or types j 0) (sym at) ∙ is in omega arith) ] ]))
+      (named_test name n m.0 within ∙ ands (at_number is_exported_type false members n) (bytes_eq (at_number key_of [] members n) name) exported alike)
+      (λ i l. not_true _ (λ f.
+      let slot = slot_named name i m.0 (omega arith) f in
+      let k : ℕ = slot.0 in
+      let is : get_or types k 0 ≡ i = slot.2 in
+      let same : bytes_eq (get_or names k []) name ≡ true = slot.3 in
+      let own : bytes_eq (at_number key_of [] members i) name ≡ true =
+      ap (λ o. bytes_eq o name) (ap (at_number key_of [] members) (sym is) ∙ sym (named_at members types names named k [] slot.1)) ∙ same in
+      elim (cases_lt k s) [
+        | inl less ↦ (let unlike : bytes_eq (get_or names k []) name ≡ false = first.2 k less in cc)
+        | inr more ↦ elim (cases_lt s k) [
+          | inl later ↦ (let rises : IsBefore members n (get_or types k 0) = types_rise s k 0 later slot.1 in
+              let after : n < i = apart name n i (subst (λ j. IsBefore members n j) is rises) alike own in omega arith)
+          | inr no_later ↦ (let at : k ≡ s = omega arith in
+              let here : n ≡ i = ap (λ j. get_or types j 0) (sym at) ∙ is in omega arith)
+        ]
+      ]))
 
   same_case : (name : Name) (o : Option ℕ) → slot_of names name ≡ o → type_of members name ≡ option_map (λ s. get_or types s 0) o
   same_case name None e = no_type name e
@@ -264,7 +269,9 @@ module _ (members : List Member) (numbers types : List ℕ) (names : List Name) 
 
   pub slots_apart : (s t : ℕ) → s < length types → t < length types → get_or types s 0 ≡ get_or types t 0 → s ≡ t
   slots_apart s t h g e = elim (cases_lt s t) [
-      inl less ↦ absurd (before_itself members (get_or types t 0) (subst (λ n. IsBefore members n (get_or types t 0)) e (types_rise s t 0 less g)))
+    | inl less ↦ absurd (before_itself members (get_or types t 0) (subst (λ n. IsBefore members n (get_or types t 0)) e (types_rise s t 0 less g)))
     | inr more ↦ elim (cases_lt t s) [
-        inl later ↦ absurd (before_itself members (get_or types s 0) (subst (λ n. IsBefore members n (get_or types s 0)) (sym e) (types_rise t s 0 later h)))
-      | inr no_later ↦ omega arith ] ]
+      | inl later ↦ absurd (before_itself members (get_or types s 0) (subst (λ n. IsBefore members n (get_or types s 0)) (sym e) (types_rise t s 0 later h)))
+      | inr no_later ↦ omega arith
+    ]
+  ]

@@ -4,14 +4,16 @@
 //! `specs/Documentation.antt` says what each list holds.
 #![tactic(auto)]
 
+mod laws;
+mod listing;
 mod lists;
 mod members;
 mod names;
-mod listing;
 mod place;
 #[cfg(test)]
 mod tests;
 mod values;
 
-pub use members::{DocPackage, DocType, Member, SpecFact};
+pub use laws::shown_members_stand_in_one_list;
 pub use listing::order;
+pub use members::{DocPackage, DocType, Member, SpecFact};

@@ -56,11 +56,13 @@ fn exported_types(alloc: Global, members: &[Member], numbers: &[u32]) -> Mem<Vec
     ensures { IfOk result (λ types. types.items
         ≡ filter (at_number is_exported_type false members.now) numbers.now) }
 {
-    Ok(numbers
-        .iter()
-        .copied()
-        .filter(|number| is_exported_type(members, *number))
-        .collect(alloc)?)
+    Ok(
+        numbers
+            .iter()
+            .copied()
+            .filter(|number| is_exported_type(members, *number))
+            .collect(alloc)?,
+    )
 }
 
 /// The name by which the member with a number is sorted.

@@ -26,10 +26,10 @@ impl Model for Lists {
     ghost Value = { slots.Lists };
 
     ghost view = { λ it. record {
-        consts = it.consts;
-        vars = it.vars;
-        funcs = it.funcs;
-        types = it.types.items
+      consts = it.consts;
+      vars = it.vars;
+      funcs = it.funcs;
+      types = it.types.items;
     } };
 }
 
@@ -86,10 +86,10 @@ impl Lists {
     /// Empty lists, with a slot for each type that has one of these numbers.
     pub fn new(alloc: Global, types: &[u32]) -> Mem<Lists>
         ensures { IfOk result (λ lists. lists ≡ record {
-            consts = [];
-            vars = [];
-            funcs = [];
-            types = map bare_type types.now
+          consts = [];
+          vars = [];
+          funcs = [];
+          types = map bare_type types.now;
         }) }
     {
         Ok(Lists {
@@ -165,10 +165,10 @@ impl Lists {
     /// The documentation that has these lists.
     pub fn into_package(self) -> DocPackage
         ensures { result ≡ record {
-            consts = self.consts;
-            vars = self.vars;
-            funcs = self.funcs;
-            types = self.types
+          consts = self.consts;
+          vars = self.vars;
+          funcs = self.funcs;
+          types = self.types;
         } }
     {
         let Lists {

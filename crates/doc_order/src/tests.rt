@@ -47,7 +47,11 @@ fn value(alloc: Global, constant: bool, facts: &[(&str, &str, bool)]) -> Mem<Mem
 /// The lists: constants, variables and functions, and each type with its constants, variables,
 /// factories and methods.
 fn lists_of(alloc: Global, doc: &DocPackage) -> Result<String, AllocError> {
-    let (consts, vars, funcs) = (doc.consts.as_slice(), doc.vars.as_slice(), doc.funcs.as_slice());
+    let (consts, vars, funcs) = (
+        doc.consts.as_slice(),
+        doc.vars.as_slice(),
+        doc.funcs.as_slice(),
+    );
     let mut text = format!(in alloc; "{consts:?} {vars:?} {funcs:?}")?;
     for it in doc.types.as_slice() {
         let (consts, vars) = (it.consts.as_slice(), it.vars.as_slice());
@@ -64,14 +68,47 @@ fn three_quarters_of_the_exported_specifications(rt: HostRuntime) -> Result<(), 
     let under = "[] [] [] 0: [1] [] [] []";
     let apart = "[1] [] [] 0: [] [] [] []";
     let cases: [(&[(&str, &str, bool)], &str); 10] = [
-        (&[("W", "A", false), ("X", "A", false), ("Y", "A", false), ("Z", "", false)], under),
-        (&[("W", "A", false), ("X", "A", false), ("Y", "", false), ("Z", "", false)], apart),
-        (&[("W", "A", false), ("X", "A", false), ("Y", "A", false), ("Z", "int", false)], apart),
-        (&[("W", "A", false), ("X", "A", false), ("Y", "", false)], under),
-        (&[("W", "A", false), ("X", "", false), ("Y", "", false)], apart),
+        (
+            &[
+                ("W", "A", false),
+                ("X", "A", false),
+                ("Y", "A", false),
+                ("Z", "", false),
+            ],
+            under,
+        ),
+        (
+            &[
+                ("W", "A", false),
+                ("X", "A", false),
+                ("Y", "", false),
+                ("Z", "", false),
+            ],
+            apart,
+        ),
+        (
+            &[
+                ("W", "A", false),
+                ("X", "A", false),
+                ("Y", "A", false),
+                ("Z", "int", false),
+            ],
+            apart,
+        ),
+        (
+            &[("W", "A", false), ("X", "A", false), ("Y", "", false)],
+            under,
+        ),
+        (
+            &[("W", "A", false), ("X", "", false), ("Y", "", false)],
+            apart,
+        ),
         (&[("W", "A", false), ("X", "", false)], under),
         (&[("W", "", false)], apart),
-        (&[("W", "A", false), ("x", "int", false), ("y", "", false)], under),
+        (
+            &[("W", "A", false), ("x", "int", false), ("y", "", false)],
+            under,
+        ),
         (&[("w", "A", false), ("X", "", true)], under),
         (&[("W", "", true), ("X", "int", true)], apart),
     ];

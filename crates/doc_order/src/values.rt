@@ -104,14 +104,10 @@ fn common_name<'a>(names: &[&'a str]) -> Option<&'a str>
 
 /// The only base name of the specifications with an exported name, where three quarters of these,
 /// rounded down, have it.
-pub fn main_base<'a>(
-    alloc: Global,
-    constant: bool,
-    specs: &'a [SpecFact],
-) -> Mem<Option<&'a str>>
+pub fn main_base<'a>(alloc: Global, constant: bool, specs: &'a [SpecFact]) -> Mem<Option<&'a str>>
     ensures { IfOk result (λ base.
         MatchOption base (main_base (bases_of constant specs.now) ≡ None)
-            (λ name. main_base (bases_of constant specs.now) ≡ Some name.now)) }
+        (λ name. main_base (bases_of constant specs.now) ≡ Some name.now)) }
 {
     let bases = bases_of(alloc, constant, specs)?;
     let named = without_empty(alloc, bases.as_slice())?;
