@@ -47,7 +47,7 @@ at_number-key [] n d h = absurd (omega arith)
 at_number-key (m ∷ members) zero d h = refl
 at_number-key (m ∷ members) (suc n) d h = at_number-key members n d (omega arith)
 
-at_number-true : (members : List Member) (n : ℕ) → n < length members → at_number (λ _. true) false members n ≡ true
+pub at_number-true : (members : List Member) (n : ℕ) → n < length members → at_number (λ _. true) false members n ≡ true
 at_number-true [] n h = absurd (omega arith)
 at_number-true (m ∷ members) zero h = refl
 at_number-true (m ∷ members) (suc n) h = at_number-true members n (omega arith)

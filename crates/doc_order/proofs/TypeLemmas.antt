@@ -21,7 +21,7 @@ use denote.Ref.{Bor}
 use Rattle.doc_order.specs.Documentation.{Name, is_exported_name, at_number, key_of, is_shown, is_type_named, kind_of, only, place_of, same_kind, stands_in, type_of, IsBefore, IsSortedFilter}
 use Rattle.doc_order.specs.Slots.{is_exported_type, slot_of}
 use Rattle.doc_order.proofs.ListLemmas.{position-at, position-none}
-use Rattle.doc_order.proofs.OrderLemmas.{element_at, mapped_at, mapped_length, at_number-within, within-at_number}
+use Rattle.doc_order.proofs.OrderLemmas.{element_at, mapped_at, mapped_length, at_number-true, at_number-within, within-at_number}
 
 pub both : (a b : Bool) → (a && b) ≡ true → (a ≡ true) × (b ≡ true)
 both true true e = (refl, refl)
@@ -61,18 +61,13 @@ pub Contains-from_filter : {X : Type 0} (p : X → Bool) (xs : List X) (y : X) �
 Contains-from_filter p [] y h = h
 Contains-from_filter p (x ∷ xs) y h = from_step p x y xs (p x) (Contains-from_filter p xs y) h
 
-at_true : (members : List Member) (n : ℕ) → n < length members → at_number (λ _. true) false members n ≡ true
-at_true [] n h = absurd (omega arith)
-at_true (m ∷ members) zero h = refl
-at_true (m ∷ members) (suc n) h = at_true members n (omega arith)
-
 -- a filter of all numbers in order
 pub sorted_filter : (wanted : Member → Bool) (members : List Member) (numbers : List ℕ) → IsSortedFilter (λ _. true) members numbers
     → IsSortedFilter wanted members (filter (at_number wanted false members) numbers)
 sorted_filter wanted members numbers all = record {
   exactly = λ n. (
     λ h. All-contains (λ m. at_number wanted false members m ≡ true) _ n (filter_passes (at_number wanted false members) numbers) h,
-    λ e. Contains-filter (at_number wanted false members) numbers n ((all.exactly n).1 (at_true members n (within-at_number wanted members n e))) e,
+    λ e. Contains-filter (at_number wanted false members) numbers n ((all.exactly n).1 (at_number-true members n (within-at_number wanted members n e))) e,
   );
   rising = AllPairs-filter (IsBefore members) (at_number wanted false members) numbers all.rising;
 }
@@ -184,7 +179,7 @@ module _ (members : List Member) (numbers types : List ℕ) (names : List Name) 
   has_slot n e =
       subst (λ l. Contains l n) (sym typed)
       (Contains-filter (at_number is_exported_type false members) numbers n
-      ((all.exactly n).1 (at_true members n (within-at_number is_exported_type members n e))) e)
+      ((all.exactly n).1 (at_number-true members n (within-at_number is_exported_type members n e))) e)
 
   pub types_rise : AllPairs (IsBefore members) types
   types_rise = subst (AllPairs (IsBefore members)) (sym typed) (AllPairs-filter (IsBefore members) (at_number is_exported_type false members) numbers all.rising)

@@ -16,4 +16,4 @@ mod values;
 
 pub use laws::shown_members_stand_in_one_list;
 pub use listing::order;
-pub use members::{DocPackage, DocType, Member, SpecFact};
+pub use members::{DocPackage, DocType, Kind, Member, SpecFact};

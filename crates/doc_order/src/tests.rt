@@ -3,45 +3,66 @@ use plain_data::{Mem, Seq, Txt};
 use std::alloc::{AllocError, Global};
 use std::test::Fail;
 
-fn texts(alloc: Global, names: &[&str]) -> Mem<Seq<Txt>> {
-    let mut texts = Seq::new(alloc);
-    for name in names {
-        texts.push(Txt::from_str(alloc, *name)?)?;
+/// `W=A`, a specification of a name with a base name, or `W`, an empty one.
+fn spec(alloc: Global, word: &str) -> Mem<SpecFact> {
+    let (name, base) = word.split_once('=').unwrap_or((word, ""));
+    let mut names = Seq::new(alloc);
+    for name in name.split(',') {
+        names.push(Txt::from_str(alloc, name)?)?;
     }
-    Ok(texts)
-}
-
-fn typ(alloc: Global, name: &str) -> Mem<Member> {
-    Ok(Member::TypeDef {
-        name: Txt::from_str(alloc, name)?,
-    })
-}
-
-fn func(alloc: Global, name: &str, results: &[&str]) -> Mem<Member> {
-    Ok(Member::Func {
-        name: Txt::from_str(alloc, name)?,
-        results: texts(alloc, results)?,
-    })
-}
-
-fn method(alloc: Global, name: &str, base: &str) -> Mem<Member> {
-    Ok(Member::Method {
-        name: Txt::from_str(alloc, name)?,
+    Ok(SpecFact {
+        names,
         base: Txt::from_str(alloc, base)?,
+        empty: !word.contains('='),
     })
 }
 
-/// A declaration with a specification for each of these names, bases, and whether it is empty.
-fn value(alloc: Global, constant: bool, facts: &[(&str, &str, bool)]) -> Mem<Member> {
+fn specs(alloc: Global, words: &str) -> Mem<Seq<SpecFact>> {
     let mut specs = Seq::new(alloc);
-    for (name, base, empty) in facts {
-        specs.push(SpecFact {
-            names: texts(alloc, &[*name])?,
-            base: Txt::from_str(alloc, *base)?,
-            empty: *empty,
-        })?;
+    for word in words.split(' ') {
+        specs.push(spec(alloc, word)?)?;
     }
-    Ok(Member::Value { constant, specs })
+    Ok(specs)
+}
+
+/// The base names of results, `-` for one that has none.
+fn results(alloc: Global, words: &str) -> Mem<Seq<Txt>> {
+    let mut bases = Seq::new(alloc);
+    for word in words.split(' ') {
+        bases.push(Txt::from_str(alloc, if word == "-" { "" } else { word })?)?;
+    }
+    Ok(bases)
+}
+
+/// `const` or `var` and specifications, `type T`, `func F` and results, `method T M`.
+fn member(alloc: Global, line: &str) -> Mem<Member> {
+    let (kind, rest) = line.split_once(' ').unwrap_or((line, ""));
+    let (first, second) = rest.split_once(' ').unwrap_or((rest, ""));
+    match kind {
+        "type" => Ok(Member::TypeDef {
+            name: Txt::from_str(alloc, first)?,
+        }),
+        "func" => Ok(Member::Func {
+            name: Txt::from_str(alloc, first)?,
+            results: results(alloc, second)?,
+        }),
+        "method" => Ok(Member::Method {
+            name: Txt::from_str(alloc, second)?,
+            base: Txt::from_str(alloc, first)?,
+        }),
+        _ => Ok(Member::Value {
+            constant: kind == "const",
+            specs: specs(alloc, rest)?,
+        }),
+    }
+}
+
+fn members(alloc: Global, lines: &str) -> Mem<Vec<Member>> {
+    let mut members = Vec::new(alloc);
+    for line in lines.split(';') {
+        members.push(member(alloc, line)?)?;
+    }
+    Ok(members)
 }
 
 /// The lists: constants, variables and functions, and each type with its constants, variables,
@@ -63,107 +84,50 @@ fn lists_of(alloc: Global, doc: &DocPackage) -> Result<String, AllocError> {
     Ok(text)
 }
 
+/// The value of three quarters, and the functions by their results, are worked examples.
 #[test]
-fn three_quarters_of_the_exported_specifications(rt: HostRuntime) -> Result<(), Fail> {
+fn each_member_stands_in_its_list(rt: HostRuntime) -> Result<(), Fail> {
     let under = "[] [] [] 0: [1] [] [] []";
     let apart = "[1] [] [] 0: [] [] [] []";
-    let cases: [(&[(&str, &str, bool)], &str); 10] = [
+    for (lines, expected) in [
+        ("type A;const W=A X=A Y=A Z=", under),
+        ("type A;const W=A X=A Y= Z=", apart),
+        ("type A;const W=A X=A Y=A Z=int", apart),
+        ("type A;const W=A X=A Y=", under),
+        ("type A;const W=A X= Y=", apart),
+        ("type A;const W=A X=", under),
+        ("type A;const W=", apart),
+        ("type A;const W=A x=int y=", under),
+        ("type A;const w=A X", under),
+        ("type A;const W X", apart),
         (
-            &[
-                ("W", "A", false),
-                ("X", "A", false),
-                ("Y", "A", false),
-                ("Z", "", false),
-            ],
-            under,
+            "type T;type U;func F T -",
+            "[] [] [] 0: [] [] [2] [] 1: [] [] [] []",
         ),
         (
-            &[
-                ("W", "A", false),
-                ("X", "A", false),
-                ("Y", "", false),
-                ("Z", "", false),
-            ],
-            apart,
+            "type T;type U;func G T U",
+            "[] [] [2] 0: [] [] [] [] 1: [] [] [] []",
+        ),
+        ("type T;func H T T", "[] [] [1] 0: [] [] [] []"),
+        ("type t;type U;func I t U", "[] [] [] 1: [] [] [2] []"),
+        ("type T;func J W;func l T", "[] [] [1] 0: [] [] [] []"),
+        ("type t;method t M;method C M", "[] [] []"),
+        (
+            "type T;method T M;method T m;method T L",
+            "[] [] [] 0: [] [] [] [3, 1]",
         ),
         (
-            &[
-                ("W", "A", false),
-                ("X", "A", false),
-                ("Y", "A", false),
-                ("Z", "int", false),
-            ],
-            apart,
+            "type B;type A;type A;method A M",
+            "[] [] [] 1: [] [] [] [3] 2: [] [] [] [] 0: [] [] [] []",
         ),
+        ("func Z;func Y;func Y;func f", "[] [] [1, 2, 0]"),
         (
-            &[("W", "A", false), ("X", "A", false), ("Y", "", false)],
-            under,
+            "var Q=;var X= Y=;var x= C=;var x,D=;var x=",
+            "[] [1, 2, 0, 3] []",
         ),
-        (
-            &[("W", "A", false), ("X", "", false), ("Y", "", false)],
-            apart,
-        ),
-        (&[("W", "A", false), ("X", "", false)], under),
-        (&[("W", "", false)], apart),
-        (
-            &[("W", "A", false), ("x", "int", false), ("y", "", false)],
-            under,
-        ),
-        (&[("w", "A", false), ("X", "", true)], under),
-        (&[("W", "", true), ("X", "int", true)], apart),
-    ];
-    for (facts, expected) in cases {
-        let members = [typ(rt.alloc(), "A")?, value(rt.alloc(), true, facts)?];
-        let doc = order(rt.alloc(), &members)?;
-        assert_eq!(rt; lists_of(rt.alloc(), &doc)?.as_str(), expected, "{facts:?}");
+    ] {
+        let doc = order(rt.alloc(), members(rt.alloc(), lines)?.as_slice())?;
+        assert_eq!(rt; lists_of(rt.alloc(), &doc)?.as_str(), expected, "{lines}");
     }
-    Ok(())
-}
-
-#[test]
-fn functions_stand_under_the_type_of_their_one_result(rt: HostRuntime) -> Result<(), Fail> {
-    let members = [
-        typ(rt.alloc(), "T")?,
-        typ(rt.alloc(), "U")?,
-        typ(rt.alloc(), "v")?,
-        func(rt.alloc(), "F", &["T", ""])?,
-        func(rt.alloc(), "G", &["T", "U"])?,
-        func(rt.alloc(), "H", &["T", "T"])?,
-        func(rt.alloc(), "I", &["v", "U"])?,
-        func(rt.alloc(), "J", &["W"])?,
-        func(rt.alloc(), "E", &["T"])?,
-        func(rt.alloc(), "K", &[])?,
-        func(rt.alloc(), "l", &["T"])?,
-    ];
-    let doc = order(rt.alloc(), &members)?;
-    let expected = "[] [] [4, 5, 7, 9] 0: [] [] [8, 3] [] 1: [] [] [6] []";
-    assert_eq!(rt; lists_of(rt.alloc(), &doc)?.as_str(), expected);
-    Ok(())
-}
-
-#[test]
-fn lists_are_sorted_by_name_with_ties_in_source_order(rt: HostRuntime) -> Result<(), Fail> {
-    let members = [
-        typ(rt.alloc(), "B")?,
-        typ(rt.alloc(), "A")?,
-        typ(rt.alloc(), "b")?,
-        typ(rt.alloc(), "A")?,
-        method(rt.alloc(), "M", "A")?,
-        method(rt.alloc(), "N", "b")?,
-        method(rt.alloc(), "m", "A")?,
-        method(rt.alloc(), "P", "C")?,
-        method(rt.alloc(), "L", "A")?,
-        func(rt.alloc(), "Z", &[])?,
-        func(rt.alloc(), "Y", &[])?,
-        func(rt.alloc(), "Y", &[])?,
-        value(rt.alloc(), false, &[("Q", "", false)])?,
-        value(rt.alloc(), false, &[("X", "", false), ("Y", "", false)])?,
-        value(rt.alloc(), false, &[("x", "", false), ("C", "", false)])?,
-        value(rt.alloc(), false, &[("x", "", false)])?,
-        value(rt.alloc(), false, &[("V", "B", false)])?,
-    ];
-    let doc = order(rt.alloc(), &members)?;
-    let expected = "[] [13, 14, 12] [10, 11, 9] 1: [] [] [] [8, 4] 3: [] [] [] [] 0: [] [16] [] []";
-    assert_eq!(rt; lists_of(rt.alloc(), &doc)?.as_str(), expected);
     Ok(())
 }
