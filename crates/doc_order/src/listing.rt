@@ -1,6 +1,6 @@
 //! The order of all members, and the lists that come of it.
 
-ghost use Rattle.std.specs.Prelude.{◌≡◌, [], false, true, filter, map, IfOk};
+ghost use Rattle.std.specs.Prelude.{◌≡◌, ◌<◌, ◌^◌, length, [], false, true, filter, map, IfOk};
 ghost use Rattle.std.specs.List.{enumerate_from};
 ghost use Rattle.doc_order.specs.Documentation.{at_number, key_of, IsDocOf, IsSortedFilter};
 ghost use Rattle.doc_order.specs.Slots.{is_exported_type};
@@ -9,18 +9,18 @@ use crate::lists::Lists;
 use crate::members::{DocPackage, Member};
 use crate::place::key_of;
 use go_chars::is_exported;
-use plain_data::{Mem, NoMemory};
+use plain_data::Mem;
 use std::alloc::Global;
 
 /// The name by which each member is sorted, and its number.
 fn entries<'a>(alloc: Global, members: &'a [Member]) -> Mem<Vec<(&'a str, u32)>>
+    requires { length members.now < 2 ^ 32 }
     ensures { IfOk result (λ entries. map (λ it. (it.1, it.0.now)) entries.items
         ≡ enumerate_from 0 (map key_of members.now)) }
 {
     let mut entries = Vec::new(alloc);
     for (place, member) in members.iter().enumerate() {
-        let number = u32::try_from(place).map_err(|_| NoMemory)?;
-        entries.push((key_of(member), number))?;
+        entries.push((key_of(member), place as u32))?;
     }
     Ok(entries)
 }
@@ -34,6 +34,7 @@ fn numbers_of(alloc: Global, entries: &[(&str, u32)]) -> Mem<Vec<u32>>
 
 /// The numbers of all members, sorted by name, ties in source order.
 fn sorted_numbers(alloc: Global, members: &[Member]) -> Mem<Vec<u32>>
+    requires { length members.now < 2 ^ 32 }
     ensures { IfOk result (λ numbers. IsSortedFilter (λ _. true) members.now numbers.items) }
 {
     let mut entries = entries(alloc, members)?;
@@ -93,8 +94,9 @@ fn keys_at<'a>(alloc: Global, members: &'a [Member], numbers: &[u32]) -> Mem<Vec
 /// All members are sorted once, and then each is put at the end of the list in which it stands.
 ///
 /// # Errors
-/// `NoMemory` where an allocation was refused, or a number doesn't fit 32 bits.
+/// `NoMemory` where an allocation was refused.
 pub fn order(alloc: Global, members: &[Member]) -> Mem<DocPackage>
+    requires few { length members.now < 2 ^ 32 }
     ensures { IfOk result (λ doc. IsDocOf members.now doc) }
 {
     let numbers = sorted_numbers(alloc, members)?;
