@@ -1,0 +1,12 @@
+use Rattle.std.proofs.Common.{◌≡◌, ◌==◌, false, sym, ap, arith}
+use Rattle.std.proofs.lemmas.Bool.Decides.{nat_tests}
+use Rattle.go_ast.specs.Characters.{single_quote}
+use Rattle.const_eval.specs.Values.{◌|>◌}
+use Rattle.const_eval.specs.Reading.{as_number, read_element}
+use Rattle.const_eval.proofs.Characters.{unquoted}
+use Rattle.const_eval.proofs.literal.quoted_value.Goals as goal
+
+pub returns-else-last-eq39 : goal.returns-else-last-eq39
+returns-else-last-eq39 c =
+    let other : (c.in_ok-last.last.now == single_quote) ≡ false = grind (arith, nat_tests, c.if-last-eq39.false) in
+    sym (ap (λ o. as_number (o |> read_element)) (unquoted c.args.bytes.now c.in_ok-last.inner.now c.in_ok-last.last.now c.in_ok-last.ensures.cases.0 other))

@@ -1,0 +1,11 @@
+pub mod Constants
+pub mod Expressions
+pub mod Lengths
+pub mod Lexemes
+pub mod Literals
+pub mod Machine
+pub mod Names
+pub mod Operators
+pub mod Progress
+pub mod Reading
+pub mod Values

@@ -1,0 +1,20 @@
+//! Values of Go constants that are integers, and the lengths of arrays that they give.
+#![tactic(auto)]
+
+mod array;
+mod array_length;
+mod constants;
+mod laws;
+mod lexeme;
+mod literal;
+mod machine;
+mod names;
+mod operator;
+#[cfg(test)]
+mod tests;
+mod value;
+
+pub use array::Length;
+pub use array_length::length;
+pub use constants::{ConstFact, Constants};
+pub use laws::one_tree_for_each_run;
