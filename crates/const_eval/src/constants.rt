@@ -147,6 +147,10 @@ fn enter_named(
     tasks: &mut Vec<Task>,
 ) -> Mem<()> {
     for text in run {
+        // In the run of a constant this is the number of its specification, and no constant.
+        if text.as_str() == "iota" {
+            continue;
+        }
         if let Some(place) = places.get(text.as_str()).copied()
             && entered.get(place) == Some(&false)
         {
