@@ -1,0 +1,21 @@
+//! What is said of a file.
+
+/// Whether a file is read.
+#[derive(Clone, Copy, Debug, PartialEq, Eq)]
+pub enum Admission {
+    /// It is read.
+    Admitted,
+    /// It is passed over.
+    Ignored(Why),
+    /// The build line on this line, counted from 1, is malformed, or is a second one.
+    BadBuildLine(u32),
+}
+
+/// Why a file is passed over.
+#[derive(Clone, Copy, Debug, PartialEq, Eq)]
+pub enum Why {
+    /// Its name tells of another system or architecture.
+    ByName,
+    /// The expression of its build line doesn't hold.
+    ByLine,
+}
