@@ -1,0 +1,3 @@
+mod LastOf
+mod Lists
+mod Found

@@ -1,0 +1,44 @@
+//! Names with their first places.
+
+ghost use Rattle.std.specs.Prelude.{◌≡◌, IfOk, map, string_bytes};
+ghost use Rattle.std.specs.Option.{option_copied};
+ghost use Rattle.name_scope.specs.Scopes.{first_place};
+ghost use Rattle.name_scope.specs.Tables.{IsIndex};
+
+use plain_data::{Mem, NoMemory, Txt};
+use std::alloc::Global;
+use std::collections::BTreeMap;
+
+/// Names, each with its first place in a list.
+pub(crate) type Index = BTreeMap<String, u32>;
+
+/// The first places of names in a list.
+pub(crate) fn index_of(alloc: Global, mut names: Vec<String>) -> Mem<Index>
+    ensures { IfOk result (λ places. IsIndex places (map string_bytes names.items)) }
+{
+    let mut places = BTreeMap::new(alloc);
+    // From the last to the first, so that the first place of a name stays.
+    while let Some(name) = names.pop() {
+        let place = number_of(names.len())?;
+        places.insert(name, place)?;
+    }
+    Ok(places)
+}
+
+/// A place as a number of 32 bits; a place beyond them has none.
+fn number_of(place: usize) -> Mem<u32>
+    ensures { IfOk result (λ number. number ≡ place) }
+{
+    u32::try_from(place).map_err(|_| NoMemory)
+}
+
+/// Copies of texts.
+pub(crate) fn copies_of(alloc: Global, texts: &[Txt]) -> Mem<Vec<String>>
+    ensures { IfOk result (λ copies. map string_bytes copies.items ≡ texts.now) }
+{
+    let mut copies = Vec::new(alloc);
+    for text in texts {
+        copies.push(String::from_str(alloc, text.as_str())?)?;
+    }
+    Ok(copies)
+}

@@ -1,0 +1,21 @@
+//! What a type's name leads to: a declared type, a predeclared one, or one outside (The Go
+//! Programming Language Specification, "Declarations and scope", "Qualified identifiers").
+//!
+//! [`resolve_name`] gives exactly `target_of` of `specs/Scopes.antt`.
+#![tactic(auto)]
+
+mod index;
+mod locals;
+mod packages;
+mod places;
+mod predeclared;
+mod resolving;
+mod tables;
+#[cfg(test)]
+mod tests;
+mod versions;
+mod world;
+
+pub use packages::{Import, Imports, NamedPackage, Target};
+pub use resolving::resolve_name;
+pub use world::World;

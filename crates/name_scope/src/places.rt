@@ -1,0 +1,57 @@
+//! Packages, imports and their tables by their places.
+
+ghost use Rattle.std.specs.Prelude.{◌≡◌};
+ghost use Rattle.std.specs.BTreeMap.{get_by_text};
+ghost use Rattle.std.specs.List.{slice_get};
+ghost use Rattle.std.specs.Option.{option_copied};
+ghost use Rattle.name_scope.specs.Scopes.{imports_of};
+
+use crate::index::Index;
+use crate::packages::{Import, NamedPackage};
+use crate::tables::PackageTables;
+
+/// The package at a place.
+pub(crate) fn package_in(packages: &[NamedPackage], place: u32) -> Option<&NamedPackage>
+    ensures { option_copied result ≡ slice_get packages.now place }
+{
+    packages.get(place as usize)
+}
+
+/// The import at a place among those of a file of a package.
+pub(crate) fn import_in(
+    packages: &[NamedPackage],
+    package: u32,
+    file: u32,
+    place: u32,
+) -> Option<&Import>
+    ensures { option_copied result ≡ slice_get (imports_of packages.now «package» file) place }
+{
+    match package_in(packages, package) {
+        Some(package) => match package.files.get(file as usize) {
+            Some(imports) => imports.list.get(place as usize),
+            None => None,
+        },
+        None => None,
+    }
+}
+
+/// The tables at a place.
+pub(crate) fn tables_in(tables: &[PackageTables], place: u32) -> Option<&PackageTables>
+    ensures { option_copied result ≡ slice_get tables.now place }
+{
+    tables.get(place as usize)
+}
+
+/// The index at a place.
+pub(crate) fn index_in(indexes: &[Index], place: u32) -> Option<&Index>
+    ensures { option_copied result ≡ slice_get indexes.now place }
+{
+    indexes.get(place as usize)
+}
+
+/// The first place of a name.
+pub(crate) fn place_in(index: &Index, name: &str) -> Option<u32>
+    ensures { result ≡ get_by_text index.now name.now }
+{
+    index.get(name).copied()
+}
