@@ -90,7 +90,7 @@ module _ (name : List ℕ) (xs : List (Bor (List ℕ))) (i : ℕ) (d : Bor (List
   first_at passes so_far =
       let now : Bor (List ℕ) → List ℕ = λ x. x.now in
       sym (so_far ∙ position_from-map_drop now (bytes_eq name) xs i d below
-        ∙ ap (λ b. cond b (Some i) (position_from (bytes_eq name) (i + 1) (map now (drop (i + 1) xs)))) (bytes_eq-sym name (get_or xs i d).now ∙ passes))
+      ∙ ap (λ b. cond b (Some i) (position_from (bytes_eq name) (i + 1) (map now (drop (i + 1) xs)))) (bytes_eq-sym name (get_or xs i d).now ∙ passes))
 
   -- it comes later
   pub next_at : bytes_eq (get_or xs i d).now name ≡ false

@@ -59,9 +59,9 @@ abbrev pub local_name : List NamedPackage → Import → List ℕ
 local_name packages import =
     if bytes_eq import.local (codes ".") then []
     else (if length import.local == 0
-      then option_map_or (λ p. p.name) (package_at packages import.path)
-        (without_version (name_segment import.path))
-      else import.local)
+    then option_map_or (λ p. p.name) (package_at packages import.path)
+    (without_version (name_segment import.path))
+    else import.local)
 
 -- the parts of a package by its place, and the imports of a file of it; past the end there are none
 abbrev pub path_of : List NamedPackage → ℕ → List ℕ

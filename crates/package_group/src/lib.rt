@@ -7,9 +7,11 @@
 mod facts;
 mod folders;
 mod grouping;
+mod laws;
 mod names;
 #[cfg(test)]
 mod tests;
 
 pub use facts::{FileFact, Grouped, Package};
 pub use grouping::group;
+pub use laws::one_grouping;

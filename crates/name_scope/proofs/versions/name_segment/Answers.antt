@@ -21,4 +21,4 @@ returns-else-is_version c =
 pub returns-in-None : goal.returns-in-None
 returns-in-None c =
     sym (ap (λ (o : Option (List ℕ × List ℕ)). option_map_or (λ split. cond (is_version split.1) (last_segment split.0) split.1) o c.args.path.now)
-      (split_missed 47 (omega arith) c.args.path.now c.rsplit_once.result c.rsplit_once.ensures.cases c.in-None.is))
+    (split_missed 47 (omega arith) c.args.path.now c.rsplit_once.result c.rsplit_once.ensures.cases c.in-None.is))

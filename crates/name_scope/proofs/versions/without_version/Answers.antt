@@ -21,4 +21,4 @@ returns-else-is_version c =
 pub returns-in-None : goal.returns-in-None
 returns-in-None c =
     sym (ap (λ (o : Option (List ℕ × List ℕ)). option_map_or (λ split. cond (is_version split.1) split.0 c.args.segment.now) o c.args.segment.now)
-      (split_missed 46 (omega arith) c.args.segment.now c.rsplit_once.result c.rsplit_once.ensures.cases c.in-None.is))
+    (split_missed 46 (omega arith) c.args.segment.now c.rsplit_once.result c.rsplit_once.ensures.cases c.in-None.is))
