@@ -1,0 +1,12 @@
+pub mod BlockSteps
+pub mod Boundaries
+pub mod Contents
+pub mod Cuttings
+pub mod DocGroups
+pub mod Halves
+pub mod Items
+pub mod LineCuts
+pub mod ListSteps
+pub mod Loops
+pub mod Scans
+pub mod TextLines

@@ -1,0 +1,13 @@
+use Rattle.std.proofs.Common.{◌≡◌, sym, ◌∙◌, ap, subst, arith, IsUtf8}
+use Rattle.std.specs.Str.{IsCharBoundary}
+use Rattle.std.specs.List.{prefix_len}
+use Rattle.comment_blocks.specs.Texts.{is_blank}
+use Rattle.comment_blocks.proofs.Boundaries.{behind_some, blank_is_ascii}
+use Rattle.comment_blocks.proofs.blank.trim_front.Goals as goal
+
+pub range_from-requires : goal.range_from-requires
+range_from-requires c = λ _.
+    let text = c.args.text.now in
+    let utf8 = subst IsUtf8 c.as_bytes.ensures.value c.as_bytes.ensures.utf8 in
+    let len : c.blank_len.result ≡ prefix_len is_blank text = c.blank_len.ensures ∙ ap (prefix_len is_blank) c.as_bytes.ensures.value in
+    behind_some is_blank blank_is_ascii text c.blank_len.result utf8 (omega (arith, len))

@@ -1,0 +1,9 @@
+pub mod Blocks
+pub mod GroupSteps
+pub mod Groups
+pub mod Kinds
+pub mod LineSteps
+pub mod Lists
+pub mod Spans
+pub mod Texts
+pub mod TextSteps

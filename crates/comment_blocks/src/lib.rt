@@ -1,0 +1,21 @@
+//! Doc comments (Go Doc Comments): the group of comments that documents a declaration, its text, and
+//! the blocks that the text consists of.
+#![tactic(auto)]
+
+mod blank;
+mod block;
+mod group;
+mod kinds;
+mod laws;
+mod line;
+mod list;
+mod plain;
+#[cfg(test)]
+mod tests;
+mod text;
+
+pub use block::{Block, Item, LinkDef};
+pub use group::doc_group;
+pub use kinds::blocks;
+pub use laws::lines_have_one_cutting;
+pub use text::comment_text;
