@@ -151,7 +151,10 @@ fn find_group(scanned: &Scanned, line: usize) -> Option<TokenRange>
 
 /// The comments of the group that ends on the line before a line and doesn't begin on a line where a
 /// token ends, as places in `comments`; `None` exactly where there is no such group. Lines count from 1.
-/// It takes no memory, and finds the group by halving (Go Doc Comments).
+/// It takes no memory (Go Doc Comments).
+///
+/// The last comment before the line is found by halving, and from there the groups that end on the
+/// line before are gone over: a call costs as many steps as these have comments.
 pub fn doc_group(scanned: &Scanned, line: u32) -> Option<TokenRange>
     requires { IsScan scanned.now }
     ensures found { IfSome result (λ range. IsDocGroup scanned.now line range.first range.after) }
