@@ -1,5 +1,6 @@
-use crate::{Block, Item, LinkDef, blocks};
-use go_ast::{Mem, Txt};
+use crate::{Block, Item, LinkDef, blocks, comment_text, doc_group};
+use go_ast::{MAX_SOURCE_BYTES, Mem, Txt};
+use go_scanner::scan;
 use std::alloc::Global;
 use std::test::Fail;
 
@@ -141,6 +142,47 @@ fn indented_spans(rt: HostRuntime) -> Mem<()> {
     ] {
         let found = shown(rt.alloc(), text)?;
         assert_eq!(rt; found.as_str(), expected, "{text:?}");
+    }
+    Ok(())
+}
+
+/// The text of the comments that document what begins on a line, or `none`.
+fn doc_of(alloc: Global, source: &str, line: u32) -> Mem<Txt> {
+    let source = source.as_bytes();
+    if source.len() <= MAX_SOURCE_BYTES
+        && let Ok(scanned) = scan(alloc, source)
+        && let Some(range) = doc_group(&scanned, line)
+    {
+        let comments = &scanned.comments.as_slice()[range.first as usize..range.after as usize];
+        return comment_text(alloc, source, comments);
+    }
+    Txt::from_str(alloc, "none")
+}
+
+#[test]
+fn comments_that_document_a_declaration(rt: HostRuntime) -> Mem<()> {
+    let directives =
+        "//go:build x\n// A\n//line a\n//x:y\n// go:x\n//extern f\n//export f\n//:x\n//A:b\n";
+    for (source, line, text) in [
+        ("// A\n// B\npackage p\n", 3, "A\nB"),
+        ("// A\n\npackage p\n", 3, "none"),
+        ("// A\npackage p\n", 1, "none"),
+        ("// A\npackage p\n", 9, "none"),
+        ("package p // x\nvar a int\n", 2, "none"),
+        ("package p // x\n// A\nvar a int\n", 3, "A"),
+        ("var a = `x\n` // y\n// z\nvar b int\n", 4, "z"),
+        ("package p\n/* A */ // B\nvar a int\n", 3, " A\nB"),
+        (directives, 10, "A\ngo:x\n:x\nA:b"),
+        (
+            "/* A\n   B\t\n\n\n C\r\n*/\npackage p\n",
+            7,
+            " A\n   B\n\n C",
+        ),
+        ("/**/\npackage p\n", 2, ""),
+        ("// A\r\n// \t\n//\n// B \t\npackage p\n", 5, "A\n\nB"),
+    ] {
+        let found = doc_of(rt.alloc(), source, line)?;
+        assert_eq!(rt; found.as_str(), text, "{source:?}");
     }
     Ok(())
 }
