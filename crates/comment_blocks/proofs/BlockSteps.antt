@@ -1,13 +1,13 @@
 -- The blocks of lines, span by span.
-use Rattle.std.proofs.Common.{◌≡◌, ℕ, zero, suc, ◌+◌, ◌-◌, ◌≤◌, Bool, true, false, List, [], ◌∷◌, ◌++◌, take, drop, length, get_or, take_all, Bor, Option, Some, None, refl, sym, ◌∙◌, ap, subst, ⊎_elim, arith, append_assoc, true≢false}
-use Rattle.std.specs.Prelude.{◌&&◌, ◌||◌, not, if◌then◌else◌}
+use Rattle.std.proofs.Common.{◌≡◌, ℕ, suc, ◌+◌, ◌-◌, ◌≤◌, Bool, true, false, List, [], ◌∷◌, ◌++◌, take, drop, length, get_or, take_all, Bor, Option, Some, None, refl, sym, ◌∙◌, ap, ⊎_elim, arith, append_assoc, true≢false}
+use Rattle.std.specs.Prelude.{◌&&◌, ◌||◌, if◌then◌else◌}
 use Rattle.std.specs.List.{prefix_len}
 use Rattle.std.proofs.lemmas.Bool.{cases_Bool, cond-false, cond-true, not_from_false, not_from_true}
 use Rattle.std.proofs.lemmas.List.{append-nil, drop-map, take-map}
 use Rattle.std.proofs.Math.Bool.{or-false}
 use Rattle.comment_blocks.specs.declared.block.Block.{Block}
 use Rattle.comment_blocks.specs.Texts.{is_blank}
-use Rattle.comment_blocks.specs.Spans.{gap, indented, is_empty, is_indented, is_plain, joined_to, Piece, pieces_of, plain, reached, with_line, with_plain}
+use Rattle.comment_blocks.specs.Spans.{gap, indented, is_empty, is_indented, is_plain, joined_to, Piece, pieces_of, plain, reached, with_plain}
 use Rattle.comment_blocks.specs.Blocks.{blocks_behind, indented_block, is_free, plain_beyond, plain_block}
 use Rattle.comment_blocks.specs.LineSteps.{block_at, blocks_from, reach, span_block, span_len, texts}
 use Rattle.comment_blocks.proofs.Cuttings.{indented_front, indented_line, plain_front, plain_line, Reach}

@@ -1,15 +1,14 @@
 -- What the comments of a reading hold is UTF-8.
-use Rattle.std.proofs.Common.{◌≡◌, ◌⊎◌, ℕ, zero, suc, ◌+◌, ◌-◌, ◌<◌, ◌≤◌, Bool, true, false, List, [], ◌∷◌, ◌++◌, length, get_or, take, drop, refl, sym, ◌∙◌, ap, subst, ⊎_elim, arith, length-append, codes, IsUtf8, append_assoc}
-use Rattle.std.specs.Prelude.{All, slice_range}
+use Rattle.std.proofs.Common.{◌≡◌, ℕ, ◌+◌, ◌-◌, ◌<◌, ◌≤◌, true, false, List, [], ◌∷◌, ◌++◌, length, get_or, drop, refl, sym, ◌∙◌, ap, subst, ⊎_elim, arith, length-append, codes, IsUtf8, append_assoc}
+use Rattle.std.specs.Prelude.{All}
 use Rattle.std.specs.Str.{IsCharBoundary}
 use Rattle.std.proofs.lemmas.List.{get_or-drop, drop_at, drop-drop, length-drop}
 use Rattle.std.proofs.lemmas.List.Elements.{All-nil, All-cons, All-take, All-drop}
 use Rattle.std.proofs.lemmas.Str.{IsCharBoundary-before_ascii, IsCharBoundary-after_ascii, IsCharBoundary-end, IsUtf8-between}
 use Rattle.go_ast.specs.declared.token.Comment.{Comment}
-use Rattle.go_ast.specs.Characters.{newline, carriage_return}
 use Rattle.go_ast.specs.Lexical.{Item, white_space, byte_order_mark, line_comment, general_comment, spelled, print_item, EndsComment, Stands}
 use Rattle.go_ast.specs.Reading.{Leads, comments_at, comments_of, span}
-use Rattle.comment_blocks.specs.Texts.{AreCommentsOf, content_end, content_of}
+use Rattle.comment_blocks.specs.Texts.{AreCommentsOf, content_end}
 use Rattle.comment_blocks.specs.TextSteps.{HasContent}
 
 -- a byte of what follows an offset

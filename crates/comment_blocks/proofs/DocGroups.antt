@@ -1,11 +1,11 @@
 -- The groups that are left to look at, from behind.
-use Rattle.std.proofs.Common.{◌≡◌, ◌==◌, ◌⊎◌, ℕ, zero, suc, ◌+◌, ◌-◌, ◌<◌, ◌≤◌, ◌^◌, Bool, true, false, List, length, get_or, refl, sym, ◌∙◌, ap, subst, ⊎_elim, arith, ltb, Option, Some, None, true≢false}
+use Rattle.std.proofs.Common.{◌≡◌, ◌==◌, ℕ, ◌+◌, ◌-◌, ◌<◌, ◌≤◌, true, false, length, get_or, refl, sym, ap, subst, ⊎_elim, arith, Option, Some, None, true≢false}
 use Rattle.std.specs.Prelude.{slice_get}
 use Rattle.std.proofs.lemmas.Bool.{cases_lt, ltb-true, ltb-false, eqb-true, eqb-false, both_ways}
 use Rattle.std.proofs.lemmas.Option.{slice_get-get_or, slice_get_within, get_or_from_slice_get}
 use Rattle.go_ast.specs.declared.token.Comment.{Comment}
 use Rattle.go_ast.specs.declared.token.Scanned.{Scanned}
-use Rattle.comment_blocks.specs.Groups.{IsDocGroup, IsGroup, begins_beside_token, ends_before, goes_on_at, line_at}
+use Rattle.comment_blocks.specs.Groups.{IsDocGroup, begins_beside_token, ends_before, goes_on_at, line_at}
 use Rattle.comment_blocks.specs.GroupSteps.{AreCommentsBefore, IsInOrder, IsStart}
 use Rattle.comment_blocks.proofs.Halves.{line_at_never_falls}
 

@@ -1,9 +1,9 @@
 -- A text that grows line by line is the text of its lines.
-use Rattle.std.proofs.Common.{◌≡◌, ℕ, zero, suc, Bool, true, false, List, [], ◌∷◌, ◌++◌, map, refl, sym, ◌∙◌, ap, append_assoc}
+use Rattle.std.proofs.Common.{◌≡◌, ℕ, Bool, true, false, List, [], ◌∷◌, ◌++◌, map, refl, sym, ◌∙◌, ap, append_assoc}
 use Rattle.std.specs.List.{join_with_byte}
 use Rattle.std.proofs.lemmas.List.{append-nil}
 use Rattle.comment_blocks.specs.Texts.{gap_before, squeezed, text_of_lines, trimmed, without_first_gap}
-use Rattle.comment_blocks.specs.TextSteps.{Begun, after_line, after_lines, after_trimmed, line_break, nothing}
+use Rattle.comment_blocks.specs.TextSteps.{after_lines, after_trimmed, nothing}
 
 -- what stands behind a text that has a line already
 abbrev tail_text : List (List ℕ) → List ℕ

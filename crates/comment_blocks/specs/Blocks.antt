@@ -1,5 +1,5 @@
 -- The blocks of a text: each span is the block of its kind (Go Doc Comments). Public clauses cite these.
-use Rattle.std.specs.Prelude.{◌≡◌, ℕ, Bool, true, false, ◌&&◌, List, [], ◌∷◌, if◌then◌else◌, Option, Some, None}
+use Rattle.std.specs.Prelude.{ℕ, Bool, true, false, ◌&&◌, List, [], ◌∷◌, if◌then◌else◌, Option, Some, None}
 use Rattle.std.specs.List.{join_with_byte}
 use Rattle.go_ast.specs.Characters.{newline}
 use Rattle.comment_blocks.specs.declared.block.Block.{Block}

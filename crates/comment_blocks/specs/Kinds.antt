@@ -1,13 +1,13 @@
 -- What a plain span is: a heading, definitions of links, or a paragraph (Go Doc Comments, "Headings",
 -- "Links", "Paragraphs"). Public clauses cite these.
-use Rattle.std.specs.Prelude.{◌≡◌, ℕ, ◌+◌, ◌-◌, ◌<◌, Bool, true, false, ◌&&◌, ◌||◌, not, List, [], ◌∷◌, ◌++◌, length, take, drop, map, if◌then◌else◌, ◌==◌, nat_eq, nat_lt, codes, Option, Some, None}
-use Rattle.std.specs.List.{join_with_byte, last_or, list_all, list_any, prefix_len, starts_with, suffix_len}
+use Rattle.std.specs.Prelude.{ℕ, ◌-◌, Bool, false, ◌&&◌, ◌||◌, not, List, [], ◌∷◌, length, take, drop, if◌then◌else◌, ◌==◌, nat_eq, nat_lt, codes, Option, Some, None}
+use Rattle.std.specs.List.{last_or, list_any, prefix_len, starts_with, suffix_len}
 use Rattle.std.specs.Str.{chars}
 use Rattle.go_chars.specs.Identifiers.{is_exported, is_letter_or_digit}
-use Rattle.go_ast.specs.Characters.{newline, space}
+use Rattle.go_ast.specs.Characters.{space}
 use Rattle.comment_blocks.specs.declared.block.LinkDef.{LinkDef}
 use Rattle.comment_blocks.specs.Texts.{is_blank}
-use Rattle.comment_blocks.specs.Spans.{is_empty, Piece, gap, plain, indented}
+use Rattle.comment_blocks.specs.Spans.{is_empty}
 
 -- a text without the blanks at its front
 abbrev pub without_blanks : List ℕ → List ℕ

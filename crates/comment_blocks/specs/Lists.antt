@@ -1,6 +1,6 @@
 -- What an indented span is: a list or code (Go Doc Comments, "Lists", "Code blocks"). Public clauses cite
 -- these.
-use Rattle.std.specs.Prelude.{◌≡◌, ℕ, Bool, true, false, ◌&&◌, ◌||◌, not, List, [], ◌∷◌, ◌++◌, length, take, drop, map, filter, min, if◌then◌else◌, ◌==◌, nat_eq, Option, Some, None}
+use Rattle.std.specs.Prelude.{ℕ, Bool, true, false, ◌&&◌, ◌||◌, not, List, [], ◌∷◌, ◌++◌, length, take, drop, map, filter, min, if◌then◌else◌, ◌==◌, nat_eq, Option, Some, None}
 use Rattle.std.specs.List.{flat_map, join_with_byte, prefix_len, slice_split, starts_with}
 use Rattle.std.specs.Char.{is_ascii_digit}
 use Rattle.go_ast.specs.Characters.{newline}

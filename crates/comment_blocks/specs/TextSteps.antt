@@ -1,6 +1,6 @@
 -- What a line adds to the text before it, and what a comment holds in its source. Only contracts of private
 -- functions and proofs cite these.
-use Rattle.std.specs.Prelude.{◌≡◌, ℕ, ◌+◌, ◌≤◌, Bool, true, false, List, [], ◌∷◌, ◌++◌, length, IsUtf8}
+use Rattle.std.specs.Prelude.{ℕ, ◌+◌, ◌≤◌, Bool, true, false, List, [], ◌∷◌, ◌++◌, length, IsUtf8}
 use Rattle.std.specs.List.{fold}
 use Rattle.go_ast.specs.declared.token.Comment.{Comment}
 use Rattle.comment_blocks.specs.Texts.{content_end, content_of, trimmed}

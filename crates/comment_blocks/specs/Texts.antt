@@ -1,6 +1,6 @@
 -- The text of a comment group (Go Doc Comments, "Syntax"; go/ast, "CommentGroup.Text"): a filter on lines, a
 -- map and a join. Public clauses cite these.
-use Rattle.std.specs.Prelude.{◌≡◌, ℕ, ◌+◌, ◌-◌, Bool, true, false, ◌&&◌, ◌||◌, List, [], ◌∷◌, ◌++◌, length, take, map, if◌then◌else◌, ◌==◌, nat_eq, codes, slice_range, Option, Some, None}
+use Rattle.std.specs.Prelude.{◌≡◌, ℕ, ◌+◌, ◌-◌, Bool, false, ◌&&◌, ◌||◌, List, [], ◌∷◌, length, take, map, if◌then◌else◌, ◌==◌, nat_eq, codes, slice_range, Option, Some, None}
 use Rattle.std.specs.List.{flat_map, join_with_byte, slice_split, starts_with, suffix_len}
 use Rattle.std.specs.Option.{option_to_list}
 use Rattle.std.specs.Char.{is_ascii_digit, is_ascii_lowercase}

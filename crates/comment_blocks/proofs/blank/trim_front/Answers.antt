@@ -1,5 +1,4 @@
-use Rattle.std.proofs.Common.{◌≡◌, sym, ◌∙◌, ap, subst, arith, IsUtf8}
-use Rattle.std.specs.Str.{IsCharBoundary}
+use Rattle.std.proofs.Common.{◌≡◌, ◌∙◌, ap, subst, arith, IsUtf8}
 use Rattle.std.specs.List.{prefix_len}
 use Rattle.comment_blocks.specs.Texts.{is_blank}
 use Rattle.comment_blocks.proofs.Boundaries.{behind_some, blank_is_ascii}

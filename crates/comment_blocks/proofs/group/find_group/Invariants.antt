@@ -1,6 +1,3 @@
-use Rattle.std.proofs.Common.{◌≡◌, ℕ, ◌<◌, ◌≤◌, length, get_or, false}
-use Rattle.go_ast.specs.declared.token.Comment.{Comment}
-use Rattle.comment_blocks.specs.Groups.{IsDocGroup, goes_on_at, line_at}
 use Rattle.comment_blocks.proofs.DocGroups.{Looked}
 use Rattle.comment_blocks.proofs.group.find_group.Given as goal
 

@@ -1,4 +1,4 @@
-use Rattle.std.proofs.Common.{◌≡◌, ltb, leb, sym, ◌∙◌, ap, subst, arith, rules, true, false}
+use Rattle.std.proofs.Common.{◌≡◌, ltb, leb, sym, ◌∙◌, ap, subst, rules, true, false}
 use Rattle.std.specs.Prelude.{◌&&◌}
 use Rattle.std.specs.List.Sorted.{IsNonDecreasingBy, IsPartitionPoint}
 use Rattle.std.proofs.lemmas.List.Sorted.{IsPartitionPoint-from_clause, IsPartitionedBy-ltb}

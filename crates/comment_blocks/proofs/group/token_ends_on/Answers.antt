@@ -1,4 +1,4 @@
-use Rattle.std.proofs.Common.{◌≡◌, ◌==◌, sym, ◌∙◌, ap, subst}
+use Rattle.std.proofs.Common.{◌==◌, sym, ◌∙◌, ap, subst}
 use Rattle.go_ast.specs.declared.token.Token.{Token}
 use Rattle.comment_blocks.specs.Groups.{line_at}
 use Rattle.comment_blocks.specs.GroupSteps.{NeverFall}

@@ -1,4 +1,4 @@
-use Rattle.std.proofs.Common.{◌≡◌, ◌++◌, length, map, string_bytes}
+use Rattle.std.proofs.Common.{◌≡◌, length}
 use Rattle.comment_blocks.specs.Blocks.{plain_beyond}
 use Rattle.comment_blocks.specs.Spans.{pieces_of}
 use Rattle.comment_blocks.specs.LineSteps.{texts}

@@ -1,4 +1,4 @@
-use Rattle.std.proofs.Common.{◌≡◌, ◌++◌, length, map, string_bytes}
+use Rattle.std.proofs.Common.{◌≡◌, ◌++◌, length, string_bytes}
 use Rattle.std.specs.List.{flat_map}
 use Rattle.comment_blocks.specs.Lists.{code_line, code_of, common_blanks}
 use Rattle.comment_blocks.specs.LineSteps.{texts}

@@ -1,4 +1,4 @@
-use Rattle.std.proofs.Common.{◌≡◌, ◌++◌, length, map, string_bytes}
+use Rattle.std.proofs.Common.{◌≡◌, ◌++◌, length, string_bytes}
 use Rattle.comment_blocks.specs.Lists.{item_paragraph}
 use Rattle.comment_blocks.specs.LineSteps.{texts}
 use Rattle.comment_blocks.proofs.list.item_paragraph.Given as goal

@@ -1,4 +1,4 @@
-use Rattle.std.proofs.Common.{◌≡◌, ◌++◌, length, map, string_bytes}
+use Rattle.std.proofs.Common.{◌≡◌, ◌++◌, length}
 use Rattle.comment_blocks.specs.Lists.{item_paragraphs}
 use Rattle.comment_blocks.specs.LineSteps.{texts}
 use Rattle.comment_blocks.proofs.list.item_paragraphs.Given as goal

@@ -1,4 +1,4 @@
-use Rattle.std.proofs.Common.{subst, arith, IsUtf8, rules}
+use Rattle.std.proofs.Common.{subst, IsUtf8, rules}
 use Rattle.comment_blocks.proofs.Boundaries.{behind_bullet}
 use Rattle.comment_blocks.proofs.list.marked_at.Goals as goal
 

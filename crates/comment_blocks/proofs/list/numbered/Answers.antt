@@ -1,4 +1,4 @@
-use Rattle.std.proofs.Common.{◌≡◌, ◌∙◌, ap, subst, arith, IsUtf8, rules}
+use Rattle.std.proofs.Common.{◌≡◌, ◌∙◌, ap, subst, arith, IsUtf8}
 use Rattle.std.specs.List.{prefix_len}
 use Rattle.std.specs.Char.{is_ascii_digit}
 use Rattle.comment_blocks.proofs.Boundaries.{behind_some, digit_is_ascii}

@@ -1,4 +1,4 @@
-use Rattle.std.proofs.Common.{◌≡◌, ◌++◌, length, map, string_bytes}
+use Rattle.std.proofs.Common.{◌≡◌, length}
 use Rattle.comment_blocks.specs.Kinds.{definitions_of}
 use Rattle.comment_blocks.specs.LineSteps.{with_done, texts}
 use Rattle.comment_blocks.proofs.plain.definitions_of.Given as goal

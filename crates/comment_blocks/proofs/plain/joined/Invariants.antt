@@ -1,4 +1,4 @@
-use Rattle.std.proofs.Common.{◌≡◌, ◌++◌, length, map, string_bytes}
+use Rattle.std.proofs.Common.{◌≡◌, ◌++◌, length, string_bytes}
 use Rattle.std.specs.List.{join_with_byte}
 use Rattle.comment_blocks.specs.LineSteps.{texts}
 use Rattle.comment_blocks.proofs.plain.joined.Given as goal

@@ -1,4 +1,4 @@
-use Rattle.std.proofs.Common.{◌≡◌, sym, ◌∙◌, ap, IsUtf8, None}
+use Rattle.std.proofs.Common.{◌≡◌, sym, ◌∙◌, ap, None}
 use Rattle.std.specs.List.{last_or}
 use Rattle.std.specs.Str.{chars}
 use Rattle.std.proofs.lemmas.Str.{Chars-Drains, encodes-chars}

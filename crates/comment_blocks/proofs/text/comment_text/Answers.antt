@@ -1,8 +1,8 @@
-use Rattle.std.proofs.Common.{◌≡◌, drop, [], sym, ◌∙◌, ap, arith}
+use Rattle.std.proofs.Common.{◌≡◌, drop, [], sym, ◌∙◌, ap}
 use Rattle.std.specs.List.{flat_map}
 use Rattle.std.proofs.lemmas.List.{drop_all}
 use Rattle.comment_blocks.specs.Texts.{lines_of_comment}
-use Rattle.comment_blocks.specs.TextSteps.{Begun, after_lines, nothing}
+use Rattle.comment_blocks.specs.TextSteps.{Begun, after_lines}
 use Rattle.comment_blocks.proofs.Contents.{contents}
 use Rattle.comment_blocks.proofs.TextLines.{text_grows}
 use Rattle.comment_blocks.proofs.text.comment_text.Goals as goal

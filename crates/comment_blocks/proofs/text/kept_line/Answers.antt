@@ -1,4 +1,4 @@
-use Rattle.std.proofs.Common.{IsUtf8, subst, arith, rules}
+use Rattle.std.proofs.Common.{IsUtf8, subst, rules}
 use Rattle.std.proofs.lemmas.Str.{IsCharBoundary-after_ascii}
 use Rattle.comment_blocks.proofs.text.kept_line.Goals as goal
 

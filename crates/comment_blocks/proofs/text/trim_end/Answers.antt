@@ -1,6 +1,6 @@
-use Rattle.std.proofs.Common.{◌≡◌, ◌-◌, ◌<◌, length, get_or, take, false, sym, ◌∙◌, subst, arith}
+use Rattle.std.proofs.Common.{◌≡◌, ◌-◌, ◌<◌, get_or, take, false, sym, ◌∙◌, subst, arith}
 use Rattle.std.proofs.lemmas.Grind.{common_steps}
-use Rattle.comment_blocks.specs.Texts.{is_trailing, trimmed}
+use Rattle.comment_blocks.specs.Texts.{is_trailing}
 use Rattle.comment_blocks.proofs.LineCuts.{trimmed_at}
 use Rattle.comment_blocks.proofs.text.trim_end.Goals as goal
 use Rattle.comment_blocks.proofs.text.trim_end.Goals.{then-loop-end-test+else-is_trailing, else-loop-end-test}
