@@ -1,5 +1,7 @@
--- The blocks of a text: each span is the block of its kind (Go Doc Comments). Public clauses cite these.
-use Rattle.std.specs.Prelude.{ℕ, Bool, true, false, ◌&&◌, List, [], ◌∷◌, if◌then◌else◌, Option, Some, None}
+-- The blocks of a text: each span is the block of its kind (Go Doc Comments). Public clauses cite
+-- these.
+use Rattle.std.specs.Prelude.{ℕ, Bool, true, false, ◌&&◌, List, [], ◌∷◌, if◌then◌else◌, Option}
+use Rattle.std.specs.Prelude.{Some, None}
 use Rattle.std.specs.List.{join_with_byte}
 use Rattle.go_ast.specs.Characters.{newline}
 use Rattle.comment_blocks.specs.declared.block.Block.{Block}
@@ -24,13 +26,14 @@ plain_beyond (gap ∷ pieces) = plain_beyond pieces
 plain_beyond (plain lines ∷ pieces) = true
 plain_beyond (indented lines ∷ pieces) = false
 
--- the text of the heading with its mark that the one line of a span is, where the lines beside it are free
+-- the text of the heading with its mark that the one line of a span is, where the lines beside it
+-- are free
 abbrev pub marked_between : Bool → List (List ℕ) → Option (List ℕ)
 marked_between free (line ∷ []) = if free then marked_heading line else None
 marked_between free _ = None
 
--- the one line of a span is a heading by its form, where the lines beside it are free and it stands among
--- plain spans; since those exist, the lines beside it are empty
+-- the one line of a span is a heading by its form, where the lines beside it are free and it stands
+-- among plain spans; since those exist, the lines beside it are empty
 abbrev pub is_formed : Bool → Bool → List (List ℕ) → Bool
 is_formed free among (line ∷ []) = free && among && has_heading_form line
 is_formed free among _ = false
@@ -50,7 +53,8 @@ formed_or formed text = if formed then blocks.Heading text else blocks.Paragraph
 abbrev pub plain_block : Bool → Bool → List (List ℕ) → Block
 plain_block free among lines =
     marked_or (marked_between free lines)
-    (links_or (definitions_of lines) (formed_or (is_formed free among lines) (join_with_byte newline lines)))
+    (links_or (definitions_of lines)
+    (formed_or (is_formed free among lines) (join_with_byte newline lines)))
 
 abbrev pub is_numbered : List Item → Bool
 is_numbered [] = false
@@ -77,9 +81,11 @@ abbrev pub blocks_behind : List Piece → List Piece → List Block
 blocks_behind before [] = []
 blocks_behind before (gap ∷ pieces) = blocks_behind (gap ∷ before) pieces
 blocks_behind before (plain lines ∷ pieces) =
-    plain_block (is_free before && is_free pieces) (plain_beyond before && plain_beyond pieces) lines
+    plain_block (is_free before && is_free pieces)
+    (plain_beyond before && plain_beyond pieces) lines
     ∷ blocks_behind (plain lines ∷ before) pieces
-blocks_behind before (indented lines ∷ pieces) = indented_block lines ∷ blocks_behind (indented lines ∷ before) pieces
+blocks_behind before (indented lines ∷ pieces) =
+    indented_block lines ∷ blocks_behind (indented lines ∷ before) pieces
 
 -- the blocks of a text
 abbrev pub blocks_of : List ℕ → List Block

@@ -1,5 +1,5 @@
--- What a scan's lists keep to, and where a group begins. Only contracts of private functions and proofs
--- cite these.
+-- What a scan's lists keep to, and where a group begins. Only contracts of private functions and
+-- proofs cite these.
 use Rattle.std.specs.Prelude.{◌≡◌, ℕ, ◌<◌, ◌≤◌, true, false, List, length, slice_index_or, nat_lt}
 use Rattle.std.specs.List.Sorted.{IsNonDecreasingBy, IsPartitionPoint}
 use Rattle.go_ast.specs.declared.token.Token.{Token}
@@ -17,7 +17,8 @@ pub record IsInOrder (scanned : Scanned) : Type 0 where
   pub token_starts : IsNonDecreasingBy (λ (token : Token). token.span.start) scanned.tokens
   pub token_ends : IsNonDecreasingBy (λ (token : Token). token.span.end) scanned.tokens
   pub comment_ends : IsNonDecreasingBy (λ (comment : Comment). comment.span.end) scanned.comments
-  pub places : (place : ℕ) (d : Comment) → place < length scanned.comments → place < (slice_index_or scanned.comments place d).span.end
+  pub places : (place : ℕ) (d : Comment) → place < length scanned.comments
+      → place < (slice_index_or scanned.comments place d).span.end
 
 -- the last place at or before a place at which no comment goes on a group
 pub record IsStart (scanned : Scanned) (place start : ℕ) : Type 0 where
@@ -29,10 +30,12 @@ pub record IsStart (scanned : Scanned) (place start : ℕ) : Type 0 where
 abbrev pub AreTokensBefore : Scanned → ℕ → ℕ → Type 0
 AreTokensBefore scanned line count = IsPartitionPoint
     (λ (token : Token). nat_lt (line_at scanned.lines token.span.end) line ≡ true)
-    (λ (token : Token). nat_lt (line_at scanned.lines token.span.end) line ≡ false) scanned.tokens count
+    (λ (token : Token). nat_lt (line_at scanned.lines token.span.end) line ≡ false)
+    scanned.tokens count
 
 -- so many comments do
 abbrev pub AreCommentsBefore : Scanned → ℕ → ℕ → Type 0
 AreCommentsBefore scanned line count = IsPartitionPoint
     (λ (comment : Comment). nat_lt (line_at scanned.lines comment.span.end) line ≡ true)
-    (λ (comment : Comment). nat_lt (line_at scanned.lines comment.span.end) line ≡ false) scanned.comments count
+    (λ (comment : Comment). nat_lt (line_at scanned.lines comment.span.end) line ≡ false)
+    scanned.comments count

@@ -1,6 +1,8 @@
--- Groups of comments, and the group that documents a declaration (Go Doc Comments; The Go Programming
--- Language Specification, "Comments"). Public clauses cite these.
-use Rattle.std.specs.Prelude.{◌≡◌, ℕ, zero, suc, ◌+◌, ◌-◌, ◌<◌, ◌≤◌, Bool, true, false, ◌&&◌, ◌||◌, not, List, length, ◌==◌, nat_le, count_by, slice_get, Option, Some, None}
+-- Groups of comments, and the group that documents a declaration (Go Doc Comments; The Go
+-- Programming Language Specification, "Comments"). Public clauses cite these.
+use Rattle.std.specs.Prelude.{◌≡◌, ℕ, zero, suc, ◌+◌, ◌-◌, ◌<◌, ◌≤◌, Bool, true, false, ◌&&◌, ◌||◌}
+use Rattle.std.specs.Prelude.{not, List, length, ◌==◌, nat_le, count_by, slice_get, Option, Some}
+use Rattle.std.specs.Prelude.{None}
 use Rattle.std.specs.List.{list_any}
 use Rattle.go_ast.specs.declared.token.Token.{Token}
 use Rattle.go_ast.specs.declared.token.Comment.{Comment}
@@ -20,14 +22,16 @@ line_at starts offset = count_by (λ start. nat_le start offset) starts
 
 -- a token ends on the line
 abbrev pub token_ends_on : Scanned → ℕ → Bool
-token_ends_on scanned line = list_any (λ (token : Token). line_at scanned.lines token.span.end == line) scanned.tokens
+token_ends_on scanned line =
+    list_any (λ (token : Token). line_at scanned.lines token.span.end == line) scanned.tokens
 
 -- a token stands between two offsets
 abbrev pub token_between : List Token → ℕ → ℕ → Bool
-token_between tokens from to = list_any (λ (token : Token). nat_le from token.span.start && nat_le token.span.end to) tokens
+token_between tokens from to =
+    list_any (λ (token : Token). nat_le from token.span.start && nat_le token.span.end to) tokens
 
--- a comment and the next are of one group: no token and no blank line stands between them, and where the
--- first begins on a line where a token ends, the next begins on that line too
+-- a comment and the next are of one group: no token and no blank line stands between them, and
+-- where the first begins on a line where a token ends, the next begins on that line too
 abbrev pub are_joined : Scanned → Comment → Comment → Bool
 are_joined scanned comment next =
     let first_line = line_at scanned.lines comment.span.start in
@@ -43,7 +47,9 @@ some_are_joined scanned _ _ = false
 -- the comment at a place is there, and of the group of the one before it
 abbrev pub goes_on_at : Scanned → ℕ → Bool
 goes_on_at scanned zero = false
-goes_on_at scanned (suc place) = some_are_joined scanned (slice_get scanned.comments place) (slice_get scanned.comments (suc place))
+goes_on_at scanned (suc place) =
+    some_are_joined scanned
+    (slice_get scanned.comments place) (slice_get scanned.comments (suc place))
 
 -- the comments from one place to before another are a group: as many as belong together
 pub record IsGroup (scanned : Scanned) (first after : ℕ) : Type 0 where
@@ -61,7 +67,8 @@ ends_before scanned line (Some comment) = line_at scanned.lines comment.span.end
 -- there is a comment, and it begins on a line where a token ends
 abbrev pub begins_beside_token : Scanned → Option Comment → Bool
 begins_beside_token scanned None = false
-begins_beside_token scanned (Some comment) = token_ends_on scanned (line_at scanned.lines comment.span.start)
+begins_beside_token scanned (Some comment) =
+    token_ends_on scanned (line_at scanned.lines comment.span.start)
 
 -- a group ends on the line before this line, and doesn't begin on a line where a token ends
 pub record IsDocGroup (scanned : Scanned) (line first after : ℕ) : Type 0 where

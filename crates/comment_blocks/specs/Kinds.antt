@@ -1,6 +1,7 @@
--- What a plain span is: a heading, definitions of links, or a paragraph (Go Doc Comments, "Headings",
--- "Links", "Paragraphs"). Public clauses cite these.
-use Rattle.std.specs.Prelude.{ℕ, ◌-◌, Bool, false, ◌&&◌, ◌||◌, not, List, [], ◌∷◌, length, take, drop, if◌then◌else◌, ◌==◌, nat_eq, nat_lt, codes, Option, Some, None}
+-- What a plain span is: a heading, definitions of links, or a paragraph (Go Doc Comments,
+-- "Headings", "Links", "Paragraphs"). Public clauses cite these.
+use Rattle.std.specs.Prelude.{ℕ, ◌-◌, Bool, false, ◌&&◌, ◌||◌, not, List, [], ◌∷◌, length, take}
+use Rattle.std.specs.Prelude.{drop, if◌then◌else◌, ◌==◌, nat_eq, nat_lt, codes, Option, Some, None}
 use Rattle.std.specs.List.{last_or, list_any, prefix_len, starts_with, suffix_len}
 use Rattle.std.specs.Str.{chars}
 use Rattle.go_chars.specs.Identifiers.{is_exported, is_letter_or_digit}
@@ -23,10 +24,13 @@ begins_blank (b ∷ text) = is_blank b
 
 -- the text of a heading with its mark, "# ", and a character that is no blank
 abbrev pub heading_after : List ℕ → Option (List ℕ)
-heading_after text = if is_empty (without_blanks text) then None else Some (without_last_blanks (without_blanks text))
+heading_after text =
+    if is_empty (without_blanks text) then None
+    else Some (without_last_blanks (without_blanks text))
 
 abbrev pub marked_heading : List ℕ → Option (List ℕ)
-marked_heading (mark ∷ blank ∷ text) = if mark == 35 && blank == space then heading_after text else None
+marked_heading (mark ∷ blank ∷ text) =
+    if mark == 35 && blank == space then heading_after text else None
 marked_heading _ = None
 
 -- a character that stands in no heading without a mark
@@ -37,19 +41,22 @@ abbrev pub is_name_end : Option ℕ → Bool
 is_name_end None = false
 is_name_end (Some c) = is_letter_or_digit c
 
--- a line that has the form of a heading: it begins with an upper case letter, ends with a letter or a
--- digit, and has none of the marks
+-- a line that has the form of a heading: it begins with an upper case letter, ends with a letter or
+-- a digit, and has none of the marks
 abbrev pub has_heading_form : List ℕ → Bool
 has_heading_form line =
-    is_exported (chars line) && is_name_end (last_or None (chars line)) && not (list_any is_heading_mark line)
+    is_exported (chars line) && is_name_end (last_or None (chars line))
+    && not (list_any is_heading_mark line)
 
 -- the address begins with a scheme, and has something behind it
 abbrev pub has_scheme : List ℕ → List ℕ → Bool
-has_scheme scheme address = starts_with nat_eq address scheme && nat_lt (length scheme) (length address)
+has_scheme scheme address =
+    starts_with nat_eq address scheme && nat_lt (length scheme) (length address)
 
 abbrev pub has_known_scheme : List ℕ → Bool
 has_known_scheme address =
-    has_scheme (codes "http://") address || has_scheme (codes "https://") address || has_scheme (codes "ftp://") address
+    has_scheme (codes "http://") address || has_scheme (codes "https://") address
+    || has_scheme (codes "ftp://") address
 
 abbrev pub is_address : List ℕ → Bool
 is_address address = has_known_scheme address && not (list_any is_blank address)
@@ -67,7 +74,8 @@ defined_by text after =
     then Some (record { text = text; url = without_blanks after }) else None
 
 abbrev pub definition_behind : List ℕ → List ℕ → Option LinkDef
-definition_behind text (bracket ∷ colon ∷ after) = if bracket == 93 && colon == 58 then defined_by text after else None
+definition_behind text (bracket ∷ colon ∷ after) =
+    if bracket == 93 && colon == 58 then defined_by text after else None
 definition_behind text _ = None
 
 abbrev pub definition_with : List ℕ → List ℕ → Option LinkDef
@@ -75,7 +83,9 @@ definition_with [] rest = None
 definition_with (t ∷ text) rest = definition_behind (t ∷ text) rest
 
 abbrev pub definition_in : List ℕ → Option LinkDef
-definition_in line = definition_with (take (prefix_len is_in_brackets line) line) (drop (prefix_len is_in_brackets line) line)
+definition_in line =
+    definition_with
+    (take (prefix_len is_in_brackets line) line) (drop (prefix_len is_in_brackets line) line)
 
 -- the definition of a link that a line is
 abbrev pub definition_of : List ℕ → Option LinkDef

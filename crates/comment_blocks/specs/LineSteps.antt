@@ -1,6 +1,7 @@
--- The texts of lines, and how far an indented span goes. Only contracts of private functions and proofs cite
--- these.
-use Rattle.std.specs.Prelude.{ℕ, ◌+◌, ◌&&◌, Bool, true, false, not, Option, Some, None, List, [], ◌∷◌, ◌++◌, map, if◌then◌else◌, ◌==◌}
+-- The texts of lines, and how far an indented span goes. Only contracts of private functions and
+-- proofs cite these.
+use Rattle.std.specs.Prelude.{ℕ, ◌+◌, ◌&&◌, Bool, true, false, not, Option, Some, None, List, []}
+use Rattle.std.specs.Prelude.{◌∷◌, ◌++◌, map, if◌then◌else◌, ◌==◌}
 use Rattle.std.specs.Borrow.{Bor}
 use Rattle.std.specs.List.{prefix_len}
 use Rattle.comment_blocks.specs.Texts.{is_blank}
@@ -39,8 +40,10 @@ abbrev pub blocks_from : Bool → Bool → List Piece → List Block
 blocks_from free among [] = []
 blocks_from free among (gap ∷ pieces) = blocks_from true among pieces
 blocks_from free among (plain lines ∷ pieces) =
-    plain_block (free && is_free pieces) (among && plain_beyond pieces) lines ∷ blocks_from false true pieces
-blocks_from free among (indented lines ∷ pieces) = indented_block lines ∷ blocks_from false false pieces
+    plain_block (free && is_free pieces) (among && plain_beyond pieces) lines
+    ∷ blocks_from false true pieces
+blocks_from free among (indented lines ∷ pieces) =
+    indented_block lines ∷ blocks_from false false pieces
 
 -- definitions before others, if those are there
 abbrev pub with_done : List LinkDef → Option (List LinkDef) → Option (List LinkDef)
@@ -49,12 +52,15 @@ with_done done (Some more) = Some (done ++ more)
 
 -- how many lines go on the span that begins with a line; behind an empty line none does
 abbrev pub span_len : List ℕ → List (List ℕ) → ℕ
-span_len line after = if is_plain line then prefix_len is_plain after else (if is_empty line then 0 else reach after)
+span_len line after =
+    if is_plain line then prefix_len is_plain after
+    else (if is_empty line then 0 else reach after)
 
 -- the block of a span that begins with a line, before these pieces
 abbrev pub span_block : Bool → Bool → List ℕ → List (List ℕ) → List Piece → Block
 span_block free among line span pieces =
-    if is_plain line then plain_block (free && is_free pieces) (among && plain_beyond pieces) span else indented_block span
+    if is_plain line then plain_block (free && is_free pieces) (among && plain_beyond pieces) span
+    else indented_block span
 
 -- the block of a span that begins with a line, and nothing for an empty line
 abbrev pub block_at : Bool → Bool → List ℕ → List (List ℕ) → List Piece → List Block

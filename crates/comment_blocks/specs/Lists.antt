@@ -1,6 +1,8 @@
--- What an indented span is: a list or code (Go Doc Comments, "Lists", "Code blocks"). Public clauses cite
--- these.
-use Rattle.std.specs.Prelude.{ℕ, Bool, true, false, ◌&&◌, ◌||◌, not, List, [], ◌∷◌, ◌++◌, length, take, drop, map, filter, min, if◌then◌else◌, ◌==◌, nat_eq, Option, Some, None}
+-- What an indented span is: a list or code (Go Doc Comments, "Lists", "Code blocks"). Public
+-- clauses cite these.
+use Rattle.std.specs.Prelude.{ℕ, Bool, true, false, ◌&&◌, ◌||◌, not, List, [], ◌∷◌, ◌++◌, length}
+use Rattle.std.specs.Prelude.{take, drop, map, filter, min, if◌then◌else◌, ◌==◌, nat_eq, Option}
+use Rattle.std.specs.Prelude.{Some, None}
 use Rattle.std.specs.List.{flat_map, join_with_byte, prefix_len, slice_split, starts_with}
 use Rattle.std.specs.Char.{is_ascii_digit}
 use Rattle.go_ast.specs.Characters.{newline}
@@ -30,7 +32,9 @@ numbered_with number [] = None
 numbered_with number (b ∷ after) = if b == 46 || b == 41 then marked_with number after else None
 
 abbrev pub numbered_at : List ℕ → Option Marked
-numbered_at line = numbered_with (take (prefix_len is_ascii_digit line) line) (drop (prefix_len is_ascii_digit line) line)
+numbered_at line =
+    numbered_with
+    (take (prefix_len is_ascii_digit line) line) (drop (prefix_len is_ascii_digit line) line)
 
 -- a marker is "*", "+", "-", the bullet, or a number
 abbrev pub marked_at : List ℕ → Option Marked
@@ -38,7 +42,8 @@ marked_at [] = None
 marked_at (b ∷ line) =
     if b == 42 || b == 43 || b == 45 then marked_with [] line
     else (if is_ascii_digit b then numbered_at (b ∷ line)
-    else (if starts_with nat_eq (b ∷ line) bullet then marked_with [] (drop 3 (b ∷ line)) else None))
+    else (if starts_with nat_eq (b ∷ line) bullet then marked_with [] (drop 3 (b ∷ line))
+    else None))
 
 -- what a line has of an item, behind its blanks
 abbrev pub marker_of : List ℕ → Option Marked
@@ -57,10 +62,12 @@ abbrev pub item_paragraphs : List (List ℕ) → List (List ℕ)
 item_paragraphs lines = map item_paragraph (filter has_lines (slice_split is_empty lines))
 
 abbrev pub item_of : Marked → List (List ℕ) → Item
-item_of marked more = record { number = marked.number; paragraphs = item_paragraphs (marked.text ∷ more) }
+item_of marked more =
+    record { number = marked.number; paragraphs = item_paragraphs (marked.text ∷ more) }
 
 -- lines before the first marker, and the items behind them
-abbrev pub with_item_line : Option Marked → List ℕ → List (List ℕ) × List Item → List (List ℕ) × List Item
+abbrev pub with_item_line : Option Marked → List ℕ → List (List ℕ) × List Item
+    → List (List ℕ) × List Item
 with_item_line None line cut = (line ∷ cut.0, cut.1)
 with_item_line (Some marked) line cut = ([], item_of marked cut.0 ∷ cut.1)
 

@@ -1,5 +1,6 @@
 -- The cutting of lines into spans (Go Doc Comments, "Syntax"). Public clauses cite these.
-use Rattle.std.specs.Prelude.{◌≡◌, ℕ, Bool, true, false, ◌&&◌, not, List, [], ◌∷◌, if◌then◌else◌, Option, Some, None}
+use Rattle.std.specs.Prelude.{◌≡◌, ℕ, Bool, true, false, ◌&&◌, not, List, [], ◌∷◌, if◌then◌else◌}
+use Rattle.std.specs.Prelude.{Option, Some, None}
 use Rattle.std.specs.List.{flat_map, list_all}
 use Rattle.comment_blocks.specs.Texts.{is_blank}
 
@@ -33,8 +34,8 @@ goes_on behind_gap [] = not behind_gap
 goes_on behind_gap ([] ∷ lines) = goes_on true lines
 goes_on behind_gap ((b ∷ line) ∷ lines) = is_blank b && goes_on false lines
 
--- a plain span has plain lines alone, an indented one begins and ends with an indented line, and has
--- only empty lines between such lines
+-- a plain span has plain lines alone, an indented one begins and ends with an indented line, and
+-- has only empty lines between such lines
 abbrev pub is_piece : Piece → Bool
 is_piece gap = true
 is_piece (plain []) = false
@@ -53,7 +54,8 @@ indented_beyond (gap ∷ pieces) = indented_beyond pieces
 indented_beyond (plain lines ∷ pieces) = false
 indented_beyond (indented lines ∷ pieces) = true
 
--- no span could be longer: none has a plain span beside a plain one, nor the next span indented as itself
+-- no span could be longer: none has a plain span beside a plain one, nor the next span indented as
+-- itself
 abbrev pub are_apart : List Piece → Bool
 are_apart [] = true
 are_apart (gap ∷ pieces) = are_apart pieces
@@ -90,7 +92,8 @@ joined_to line pieces (Some beyond) = indented (line ∷ beyond.0) ∷ beyond.1
 abbrev pub with_line : List ℕ → List Piece → List Piece
 with_line [] pieces = gap ∷ pieces
 with_line (b ∷ line) pieces =
-    if is_blank b then joined_to (b ∷ line) pieces (reached pieces) else with_plain (b ∷ line) pieces
+    if is_blank b then joined_to (b ∷ line) pieces (reached pieces)
+    else with_plain (b ∷ line) pieces
 
 -- the cutting of lines, from the last line to the first
 abbrev pub pieces_of : List (List ℕ) → List Piece

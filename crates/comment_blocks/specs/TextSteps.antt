@@ -1,5 +1,5 @@
--- What a line adds to the text before it, and what a comment holds in its source. Only contracts of private
--- functions and proofs cite these.
+-- What a line adds to the text before it, and what a comment holds in its source. Only contracts of
+-- private functions and proofs cite these.
 use Rattle.std.specs.Prelude.{ℕ, ◌+◌, ◌≤◌, Bool, true, false, List, [], ◌∷◌, ◌++◌, length, IsUtf8}
 use Rattle.std.specs.List.{fold}
 use Rattle.go_ast.specs.declared.token.Comment.{Comment}
@@ -28,7 +28,8 @@ line_break (b ∷ text) false = 10 ∷ []
 -- the same with one line more, which is trimmed already
 abbrev pub after_trimmed : Begun → List ℕ → Begun
 after_trimmed begun [] = record { text = begun.text; gap = true }
-after_trimmed begun (b ∷ line) = record { text = (begun.text ++ line_break begun.text begun.gap) ++ (b ∷ line); gap = false }
+after_trimmed begun (b ∷ line) =
+    record { text = (begun.text ++ line_break begun.text begun.gap) ++ (b ∷ line); gap = false }
 
 abbrev pub after_line : Begun → List ℕ → Begun
 after_line begun line = after_trimmed begun (trimmed line)

@@ -1,6 +1,8 @@
--- The text of a comment group (Go Doc Comments, "Syntax"; go/ast, "CommentGroup.Text"): a filter on lines, a
--- map and a join. Public clauses cite these.
-use Rattle.std.specs.Prelude.{◌≡◌, ℕ, ◌+◌, ◌-◌, Bool, false, ◌&&◌, ◌||◌, List, [], ◌∷◌, length, take, map, if◌then◌else◌, ◌==◌, nat_eq, codes, slice_range, Option, Some, None}
+-- The text of a comment group (Go Doc Comments, "Syntax"; go/ast, "CommentGroup.Text"): a filter on
+-- lines, a map and a join. Public clauses cite these.
+use Rattle.std.specs.Prelude.{◌≡◌, ℕ, ◌+◌, ◌-◌, Bool, false, ◌&&◌, ◌||◌, List, [], ◌∷◌, length}
+use Rattle.std.specs.Prelude.{take, map, if◌then◌else◌, ◌==◌, nat_eq, codes, slice_range, Option}
+use Rattle.std.specs.Prelude.{Some, None}
 use Rattle.std.specs.List.{flat_map, join_with_byte, slice_split, starts_with, suffix_len}
 use Rattle.std.specs.Option.{option_to_list}
 use Rattle.std.specs.Char.{is_ascii_digit, is_ascii_lowercase}
@@ -47,7 +49,8 @@ begins_word (b ∷ bytes) = is_word_byte b
 -- further bytes of a word, a colon, and the first byte of another word
 abbrev pub word_then_colon : List ℕ → Bool
 word_then_colon [] = false
-word_then_colon (b ∷ bytes) = if is_word_byte b then word_then_colon bytes else (b == 58 && begins_word bytes)
+word_then_colon (b ∷ bytes) =
+    if is_word_byte b then word_then_colon bytes else (b == 58 && begins_word bytes)
 
 -- a line for tools, such as `go:build`
 abbrev pub is_tool_line : List ℕ → Bool
@@ -76,7 +79,8 @@ content_of source comment = slice_range source (comment.span.start + 2) (content
 
 abbrev pub lines_of_comment : List ℕ → Comment → List (List ℕ)
 lines_of_comment source comment =
-    if comment.general then lines_of (content_of source comment) else option_to_list (kept_line (content_of source comment))
+    if comment.general then lines_of (content_of source comment)
+    else option_to_list (kept_line (content_of source comment))
 
 -- an empty line before lines, unless they begin with one or there are none
 abbrev pub gap_before : List (List ℕ) → List (List ℕ)

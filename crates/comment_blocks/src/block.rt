@@ -9,7 +9,8 @@ pub enum Block {
     Paragraph(Txt),
     /// A heading, without its mark and the blanks round it.
     Heading(Txt),
-    /// Preformatted text without the blanks that all its lines begin with, a newline after each line.
+    /// Preformatted text without the blanks that all its lines begin with, a newline after each
+    /// line.
     Code(Txt),
     /// A list.
     List {

@@ -1,8 +1,12 @@
 //! The comment group that documents a declaration.
 
-ghost use Rattle.std.specs.Prelude.{◌≡◌, ◌+◌, ◌^◌, ◌≤◌, ◌<◌, ℕ, length, IfSome, IfNone, IsTrue, slice_get};
-ghost use Rattle.comment_blocks.specs.Groups.{IsScan, IsDocGroup, are_joined, begins_beside_token, ends_before, goes_on_at, line_at, token_between, token_ends_on};
-ghost use Rattle.comment_blocks.specs.GroupSteps.{AreCommentsBefore, AreTokensBefore, IsInOrder, IsStart, NeverFall};
+ghost use Rattle.std.specs.Prelude.{◌≡◌, ◌+◌, ◌^◌, ◌≤◌, ◌<◌, ℕ, length, IfSome, IfNone, IsTrue};
+ghost use Rattle.std.specs.Prelude.{slice_get};
+ghost use Rattle.comment_blocks.specs.Groups.{IsScan, IsDocGroup, are_joined, begins_beside_token};
+ghost use Rattle.comment_blocks.specs.Groups.{ends_before, goes_on_at, line_at, token_between};
+ghost use Rattle.comment_blocks.specs.Groups.{token_ends_on};
+ghost use Rattle.comment_blocks.specs.GroupSteps.{AreCommentsBefore, AreTokensBefore, IsInOrder};
+ghost use Rattle.comment_blocks.specs.GroupSteps.{IsStart, NeverFall};
 
 use go_ast::{Comment, Scanned, TokenRange};
 
@@ -149,9 +153,9 @@ fn find_group(scanned: &Scanned, line: usize) -> Option<TokenRange>
     None
 }
 
-/// The comments of the group that ends on the line before a line and doesn't begin on a line where a
-/// token ends, as places in `comments`; `None` exactly where there is no such group. Lines count from 1.
-/// It takes no memory (Go Doc Comments).
+/// The comments of the group that ends on the line before a line and doesn't begin on a line where
+/// a token ends, as places in `comments`; `None` exactly where there is no such group. Lines count
+/// from 1. It takes no memory (Go Doc Comments).
 ///
 /// The last comment before the line is found by halving, and from there the groups that end on the
 /// line before are gone over: a call costs as many steps as these have comments.

@@ -1,9 +1,13 @@
 //! The blocks of a text.
 
-ghost use Rattle.std.specs.Prelude.{◌≡◌, ◌&&◌, ◌||◌, ◌+◌, ◌++◌, ◌≤◌, length, true, false, OnOk, IfOk, MatchOption, None, Some};
-ghost use Rattle.comment_blocks.specs.Blocks.{blocks_of, indented_block, is_formed, is_free, is_numbered, list_of, marked_between, plain_beyond, plain_block};
+ghost use Rattle.std.specs.Prelude.{◌≡◌, ◌&&◌, ◌||◌, ◌+◌, ◌++◌, ◌≤◌, length, true, false, OnOk};
+ghost use Rattle.std.specs.Prelude.{IfOk, MatchOption, None, Some};
+ghost use Rattle.comment_blocks.specs.Blocks.{blocks_of, indented_block, is_formed, is_free};
+ghost use Rattle.comment_blocks.specs.Blocks.{is_numbered, list_of, marked_between, plain_beyond};
+ghost use Rattle.comment_blocks.specs.Blocks.{plain_block};
 ghost use Rattle.comment_blocks.specs.Lists.{items_of};
-ghost use Rattle.comment_blocks.specs.LineSteps.{block_at, blocks_from, span_block, span_len, texts};
+ghost use Rattle.comment_blocks.specs.LineSteps.{block_at, blocks_from, span_block, span_len};
+ghost use Rattle.comment_blocks.specs.LineSteps.{texts};
 ghost use Rattle.comment_blocks.specs.Spans.{is_empty, is_plain, pieces_of};
 
 use crate::block::{Block, Item};
@@ -58,8 +62,8 @@ fn is_formed(free: bool, among: bool, lines: &[&str]) -> bool
     }
 }
 
-/// The block of a plain span: `free` says whether the lines on both sides are empty or absent, `among`
-/// whether the spans on both sides are there and plain.
+/// The block of a plain span: `free` says whether the lines on both sides are empty or absent,
+/// `among` whether the spans on both sides are there and plain.
 fn plain_block(alloc: Global, free: bool, among: bool, lines: &[&str]) -> Mem<Block>
     ensures { IfOk result (λ block. block ≡ plain_block free among (texts lines.now)) }
 {
@@ -106,7 +110,8 @@ fn indented_block(alloc: Global, lines: &[&str]) -> Mem<Block>
     }
 }
 
-/// How many lines the span or the empty line at the front has, by its first line and those after it.
+/// How many lines the span or the empty line at the front has, by its first line and those after
+/// it.
 fn piece_len(line: &str, after: &[&str]) -> usize
     ensures len { result ≡ 1 + span_len line.now (texts after.now) }
     ensures within { result ≤ 1 + length after.now }
@@ -120,8 +125,8 @@ fn piece_len(line: &str, after: &[&str]) -> usize
     }
 }
 
-/// The block of a span that begins with a line, by the lines behind it: `free` says whether the line
-/// before it is empty or absent, `plain` whether the span before it is there and plain.
+/// The block of a span that begins with a line, by the lines behind it: `free` says whether the
+/// line before it is empty or absent, `plain` whether the span before it is there and plain.
 fn span_block(
     alloc: Global,
     free: bool,
@@ -130,7 +135,8 @@ fn span_block(
     span: &[&str],
     behind: &[&str],
 ) -> Mem<Block>
-    ensures { IfOk result (λ block. block ≡ span_block free plain line.now (texts span.now) (pieces_of (texts behind.now))) }
+    ensures { IfOk result (λ block.
+        block ≡ span_block free plain line.now (texts span.now) (pieces_of (texts behind.now))) }
 {
     if is_plain(line) {
         let free_between = free && is_free(behind);
@@ -170,7 +176,8 @@ fn is_plain_so_far(line: &str, plain: bool) -> bool
 
 /// The blocks of lines.
 fn blocks_of_lines(alloc: Global, lines: &[&str]) -> Mem<Seq<Block>>
-    ensures { IfOk result (λ blocks. blocks ≡ blocks_from true false (pieces_of (texts lines.now))) }
+    ensures { IfOk result (λ blocks.
+        blocks ≡ blocks_from true false (pieces_of (texts lines.now))) }
 {
     let mut blocks = Seq::new(alloc);
     let mut free = true;
@@ -187,9 +194,9 @@ fn blocks_of_lines(alloc: Global, lines: &[&str]) -> Mem<Seq<Block>>
     Ok(blocks)
 }
 
-/// The blocks of a comment's text, in their order: a heading, a paragraph, definitions of links, a list or
-/// code for each span of its lines (Go Doc Comments). It takes a number of steps in proportion to the
-/// length of the text.
+/// The blocks of a comment's text, in their order: a heading, a paragraph, definitions of links, a
+/// list or code for each span of its lines (Go Doc Comments). It takes a number of steps in
+/// proportion to the length of the text.
 pub fn blocks(alloc: Global, text: &str) -> Mem<Seq<Block>>
     ensures { IfOk result (λ blocks. blocks ≡ blocks_of text.now) }
 {

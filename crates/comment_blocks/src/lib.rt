@@ -1,5 +1,5 @@
-//! Doc comments (Go Doc Comments): the group of comments that documents a declaration, its text, and
-//! the blocks that the text consists of.
+//! Doc comments (Go Doc Comments): the group of comments that documents a declaration, its text,
+//! and the blocks that the text consists of.
 #![tactic(auto)]
 
 mod blank;

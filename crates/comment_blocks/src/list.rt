@@ -1,11 +1,16 @@
 //! What an indented span is: a list or code.
 
-ghost use Rattle.std.specs.Prelude.{◌≡◌, ◌++◌, ◌≤◌, OnOk, IfOk, MatchOption, None, Some, drop, length, min};
+ghost use Rattle.std.specs.Prelude.{◌≡◌, ◌++◌, ◌≤◌, OnOk, IfOk, MatchOption, None, Some, drop};
+ghost use Rattle.std.specs.Prelude.{length, min};
 ghost use Rattle.std.specs.List.{prefix_len};
 ghost use Rattle.std.specs.Char.{is_ascii_digit};
-ghost use Rattle.comment_blocks.specs.Lists.{code_of, common_blanks, common_front, item_of, item_paragraph, item_paragraphs, items_of, marked_at, marked_with, marker_of, narrowed, numbered_at, numbered_with};
+ghost use Rattle.comment_blocks.specs.Lists.{code_of, common_blanks, common_front, item_of};
+ghost use Rattle.comment_blocks.specs.Lists.{item_paragraph, item_paragraphs, items_of, marked_at};
+ghost use Rattle.comment_blocks.specs.Lists.{marked_with, marker_of, narrowed, numbered_at};
+ghost use Rattle.comment_blocks.specs.Lists.{numbered_with};
 ghost use Rattle.comment_blocks.specs.Texts.{is_blank};
-ghost use Rattle.comment_blocks.specs.LineSteps.{is_filled, is_unmarked, item_at, paragraph_at, texts};
+ghost use Rattle.comment_blocks.specs.LineSteps.{is_filled, is_unmarked, item_at, paragraph_at};
+ghost use Rattle.comment_blocks.specs.LineSteps.{texts};
 
 use crate::blank::{behind, blank_len, cut, trim_front};
 use crate::block::Item;
@@ -23,7 +28,8 @@ pub struct Marked<'a> {
 /// An item's line, where a blank and a text stand behind the marker.
 fn marked_with<'a>(number: &'a str, after: &'a str) -> Option<Marked<'a>>
     ensures { MatchOption result (marked_with number.now after.now ≡ None)
-        (λ found. marked_with number.now after.now ≡ Some (record { number = found.number.now; text = found.text.now })) }
+        (λ found. marked_with number.now after.now
+        ≡ Some (record { number = found.number.now; text = found.text.now })) }
 {
     let text = trim_front(after);
     match after.as_bytes() {
@@ -42,7 +48,8 @@ fn digit_len(text: &[u8]) -> usize
 /// An item's line, by its digits and by what stands behind them.
 fn numbered_with<'a>(number: &'a str, rest: &'a str) -> Option<Marked<'a>>
     ensures { MatchOption result (numbered_with number.now rest.now ≡ None)
-        (λ found. numbered_with number.now rest.now ≡ Some (record { number = found.number.now; text = found.text.now })) }
+        (λ found. numbered_with number.now rest.now
+        ≡ Some (record { number = found.number.now; text = found.text.now })) }
 {
     match rest.as_bytes() {
         [b'.' | b')', ..] => marked_with(number, behind(rest, 1)),
@@ -53,7 +60,8 @@ fn numbered_with<'a>(number: &'a str, rest: &'a str) -> Option<Marked<'a>>
 /// An item's line that begins with digits.
 fn numbered(line: &str) -> Option<Marked<'_>>
     ensures { MatchOption result (numbered_at line.now ≡ None)
-        (λ found. numbered_at line.now ≡ Some (record { number = found.number.now; text = found.text.now })) }
+        (λ found. numbered_at line.now
+        ≡ Some (record { number = found.number.now; text = found.text.now })) }
 {
     let (number, rest) = cut(line, digit_len(line.as_bytes()));
     numbered_with(number, rest)
@@ -62,7 +70,8 @@ fn numbered(line: &str) -> Option<Marked<'_>>
 /// An item's line that begins with its marker.
 fn marked_at(line: &str) -> Option<Marked<'_>>
     ensures { MatchOption result (marked_at line.now ≡ None)
-        (λ found. marked_at line.now ≡ Some (record { number = found.number.now; text = found.text.now })) }
+        (λ found. marked_at line.now
+        ≡ Some (record { number = found.number.now; text = found.text.now })) }
 {
     match line.as_bytes() {
         [b'*' | b'+' | b'-', ..] => marked_with("", behind(line, 1)),
@@ -75,7 +84,8 @@ fn marked_at(line: &str) -> Option<Marked<'_>>
 /// What a line has of an item, if it has a marker behind its blanks.
 pub fn marker_of(line: &str) -> Option<Marked<'_>>
     ensures { MatchOption result (marker_of line.now ≡ None)
-        (λ found. marker_of line.now ≡ Some (record { number = found.number.now; text = found.text.now })) }
+        (λ found. marker_of line.now
+        ≡ Some (record { number = found.number.now; text = found.text.now })) }
 {
     marked_at(trim_front(line))
 }
@@ -132,7 +142,8 @@ fn item_paragraph(alloc: Global, lines: &[&str]) -> Mem<Txt>
 
 /// Adds the paragraph that lines are, unless the first of them is empty.
 fn push_paragraph(alloc: Global, paragraphs: &mut Seq<Txt>, line: &str, lines: &[&str]) -> Mem<()>
-    ensures { OnOk result (paragraphs.new ≡ paragraphs.old ++ paragraph_at line.now (texts lines.now)) }
+    ensures { OnOk result (paragraphs.new
+        ≡ paragraphs.old ++ paragraph_at line.now (texts lines.now)) }
 {
     if line.is_empty() {
         return Ok(());
@@ -157,7 +168,9 @@ fn item_paragraphs(alloc: Global, lines: &[&str]) -> Mem<Seq<Txt>>
 
 /// An item, by its first line and those that continue it.
 fn item_of(alloc: Global, marked: &Marked, more: &[&str]) -> Mem<Item>
-    ensures { IfOk result (λ item. item ≡ item_of (record { number = marked.now.number.now; text = marked.now.text.now }) (texts more.now)) }
+    ensures { IfOk result (λ item. item
+        ≡ item_of (record { number = marked.now.number.now; text = marked.now.text.now })
+        (texts more.now)) }
 {
     let mut lines = Vec::new(alloc);
     lines.push(marked.text)?;

@@ -3,7 +3,12 @@
 ghost use Rattle.std.specs.Prelude.{◌≡◌, ◌≤◌, ◌<◌, IfOk, MatchOption, None, Some, length, nat_eq};
 ghost use Rattle.std.specs.List.{join_with_byte, last_or, list_any, prefix_len};
 ghost use Rattle.std.specs.Str.{chars};
-ghost use Rattle.comment_blocks.specs.Kinds.{begins_blank, defined_by, definition_behind, definition_in, definition_of, definition_with, definitions_of, has_heading_form, has_known_scheme, has_scheme, heading_after, is_address, is_heading_mark, is_in_brackets, is_name_end, marked_heading};
+ghost use Rattle.comment_blocks.specs.Kinds.{begins_blank, defined_by, definition_behind};
+ghost use Rattle.comment_blocks.specs.Kinds.{definition_in, definition_of, definition_with};
+ghost use Rattle.comment_blocks.specs.Kinds.{definitions_of, has_heading_form, has_known_scheme};
+ghost use Rattle.comment_blocks.specs.Kinds.{has_scheme, heading_after, is_address};
+ghost use Rattle.comment_blocks.specs.Kinds.{is_heading_mark, is_in_brackets, is_name_end};
+ghost use Rattle.comment_blocks.specs.Kinds.{marked_heading};
 ghost use Rattle.comment_blocks.specs.LineSteps.{texts};
 ghost use Rattle.comment_blocks.specs.Texts.{is_blank};
 
@@ -16,7 +21,8 @@ use std::alloc::Global;
 
 /// The text of a heading behind its mark, or `None` where there are blanks alone.
 fn heading_after(text: &str) -> Option<&str>
-    ensures { MatchOption result (heading_after text.now ≡ None) (λ heading. heading_after text.now ≡ Some heading.now) }
+    ensures { MatchOption result (heading_after text.now ≡ None)
+        (λ heading. heading_after text.now ≡ Some heading.now) }
 {
     let text = trim_front(text);
     if text.is_empty() {
@@ -28,7 +34,8 @@ fn heading_after(text: &str) -> Option<&str>
 
 /// The text of the heading that a line with the mark `# ` is.
 pub fn marked_heading(line: &str) -> Option<&str>
-    ensures { MatchOption result (marked_heading line.now ≡ None) (λ heading. marked_heading line.now ≡ Some heading.now) }
+    ensures { MatchOption result (marked_heading line.now ≡ None)
+        (λ heading. marked_heading line.now ≡ Some heading.now) }
 {
     match line.as_bytes() {
         [b'#', b' ', ..] => heading_after(behind(line, 2)),
@@ -132,7 +139,8 @@ struct Definition<'a> {
 /// A definition, by its text and by what stands behind `]:`.
 fn defined_by<'a>(text: &'a str, after: &'a str) -> Option<Definition<'a>>
     ensures { MatchOption result (defined_by text.now after.now ≡ None)
-        (λ found. defined_by text.now after.now ≡ Some (record { text = found.text.now; url = found.url.now })) }
+        (λ found. defined_by text.now after.now
+        ≡ Some (record { text = found.text.now; url = found.url.now })) }
 {
     let url = trim_front(after);
     if begins_blank(after.as_bytes()) && is_address(url.as_bytes()) {
@@ -145,7 +153,8 @@ fn defined_by<'a>(text: &'a str, after: &'a str) -> Option<Definition<'a>>
 /// A definition, by its text and by what stands behind that.
 fn definition_behind<'a>(text: &'a str, rest: &'a str) -> Option<Definition<'a>>
     ensures { MatchOption result (definition_behind text.now rest.now ≡ None)
-        (λ found. definition_behind text.now rest.now ≡ Some (record { text = found.text.now; url = found.url.now })) }
+        (λ found. definition_behind text.now rest.now
+        ≡ Some (record { text = found.text.now; url = found.url.now })) }
 {
     match rest.as_bytes() {
         [b']', b':', ..] => defined_by(text, behind(rest, 2)),
@@ -156,7 +165,8 @@ fn definition_behind<'a>(text: &'a str, rest: &'a str) -> Option<Definition<'a>>
 /// The same, where the text may be empty.
 fn definition_with<'a>(text: &'a str, rest: &'a str) -> Option<Definition<'a>>
     ensures { MatchOption result (definition_with text.now rest.now ≡ None)
-        (λ found. definition_with text.now rest.now ≡ Some (record { text = found.text.now; url = found.url.now })) }
+        (λ found. definition_with text.now rest.now
+        ≡ Some (record { text = found.text.now; url = found.url.now })) }
 {
     if text.is_empty() {
         None
@@ -168,7 +178,8 @@ fn definition_with<'a>(text: &'a str, rest: &'a str) -> Option<Definition<'a>>
 /// The definition whose text begins behind the opening bracket.
 fn definition_in(line: &str) -> Option<Definition<'_>>
     ensures { MatchOption result (definition_in line.now ≡ None)
-        (λ found. definition_in line.now ≡ Some (record { text = found.text.now; url = found.url.now })) }
+        (λ found. definition_in line.now
+        ≡ Some (record { text = found.text.now; url = found.url.now })) }
 {
     let (text, rest) = cut(line, unbracketed_len(line.as_bytes()));
     definition_with(text, rest)
@@ -177,7 +188,8 @@ fn definition_in(line: &str) -> Option<Definition<'_>>
 /// The definition that a line is.
 fn definition_of(line: &str) -> Option<Definition<'_>>
     ensures { MatchOption result (definition_of line.now ≡ None)
-        (λ found. definition_of line.now ≡ Some (record { text = found.text.now; url = found.url.now })) }
+        (λ found. definition_of line.now
+        ≡ Some (record { text = found.text.now; url = found.url.now })) }
 {
     match line.as_bytes() {
         [b'[', ..] => definition_in(behind(line, 1)),

@@ -2,8 +2,12 @@
 
 ghost use Rattle.std.specs.Prelude.{◌≡◌, ◌≤◌, IfOk, MatchOption, None, OnOk, Some, length};
 ghost use Rattle.std.specs.List.{flat_map};
-ghost use Rattle.comment_blocks.specs.Texts.{AreCommentsOf, begins_word, comment_text_of, content_end, content_of, is_directive, is_tool_line, is_trailing, is_word_byte, kept_line, lines_of, lines_of_comment, trimmed, word_then_colon};
-ghost use Rattle.comment_blocks.specs.TextSteps.{HasContent, after_line, after_lines, line_break, nothing};
+ghost use Rattle.comment_blocks.specs.Texts.{AreCommentsOf, begins_word, comment_text_of};
+ghost use Rattle.comment_blocks.specs.Texts.{content_end, content_of, is_directive, is_tool_line};
+ghost use Rattle.comment_blocks.specs.Texts.{is_trailing, is_word_byte, kept_line, lines_of};
+ghost use Rattle.comment_blocks.specs.Texts.{lines_of_comment, trimmed, word_then_colon};
+ghost use Rattle.comment_blocks.specs.TextSteps.{HasContent, after_line, after_lines, line_break};
+ghost use Rattle.comment_blocks.specs.TextSteps.{nothing};
 
 use crate::line::is_blank;
 use go_ast::{Comment, Mem, Txt};
@@ -84,7 +88,8 @@ fn is_directive(text: &[u8]) -> bool
 
 /// The line that stands after `//`, or `None` for a directive.
 fn kept_line(content: &str) -> Option<&str>
-    ensures { MatchOption result (kept_line content.now ≡ None) (λ line. kept_line content.now ≡ Some line.now) }
+    ensures { MatchOption result (kept_line content.now ≡ None)
+        (λ line. kept_line content.now ≡ Some line.now) }
 {
     match content.as_bytes() {
         [] => Some(content),
@@ -188,7 +193,8 @@ impl Lines {
     /// Adds the lines of a comment.
     fn push_comment(&mut self, source: &[u8], comment: &Comment) -> Mem<()>
         requires { HasContent source.now comment.now }
-        ensures { OnOk result (self.new ≡ after_lines self.old (lines_of_comment source.now comment.now)) }
+        ensures { OnOk result (self.new
+            ≡ after_lines self.old (lines_of_comment source.now comment.now)) }
     {
         let content = content(source, comment);
         if comment.general {
@@ -202,8 +208,9 @@ impl Lines {
 }
 
 /// The text of a comment group: the lines of its comments without their marks, trailing blanks and
-/// carriage returns, and directives; a run of empty lines is made one, and those at both ends go. It has
-/// no newline at its end. The comments stand one after another in the source (Go Doc Comments).
+/// carriage returns, and directives; a run of empty lines is made one, and those at both ends go.
+/// It has no newline at its end. The comments stand one after another in the source (Go Doc
+/// Comments).
 pub fn comment_text(alloc: Global, source: &[u8], comments: &[Comment]) -> Mem<Txt>
     requires { AreCommentsOf source.now comments.now }
     ensures { IfOk result (λ text. text ≡ comment_text_of source.now comments.now) }

@@ -9,4 +9,5 @@ range_from-requires c = λ _.
     let count = c.args.count in
     let next : (count - 1) + 1 ≡ count = omega (arith, c.requires.some) in
     subst (IsCharBoundary text) next
-    (IsCharBoundary-after_ascii text (count - 1) c.utf8.text (omega (arith, c.requires.some, c.requires.within)) c.requires.ascii)
+    (IsCharBoundary-after_ascii text (count - 1) c.utf8.text
+    (omega (arith, c.requires.some, c.requires.within)) c.requires.ascii)

@@ -3,7 +3,8 @@ use Rattle.std.proofs.lemmas.Grind.{common_steps}
 use Rattle.comment_blocks.specs.Texts.{is_blank}
 use Rattle.comment_blocks.proofs.LineCuts.{cut_at}
 use Rattle.comment_blocks.proofs.blank.trim_back.Goals as goal
-use Rattle.comment_blocks.proofs.blank.trim_back.Goals.{then-loop-end-test+else-is_blank, else-loop-end-test}
+use Rattle.comment_blocks.proofs.blank.trim_back.Goals.{then-loop-end-test+else-is_blank}
+use Rattle.comment_blocks.proofs.blank.trim_back.Goals.{else-loop-end-test}
 
 pub returns : goal.returns
 returns c =
@@ -12,7 +13,8 @@ returns c =
     let last : 0 < end → is_blank (get_or text (end - 1) 0) ≡ false =
     elim c.loop-end-test.branch as (λ _. 0 < end → is_blank (get_or text (end - 1) 0) ≡ false) [
       | then-loop-end-test+else-is_blank w ↦ λ some.
-          subst (λ bs. is_blank (get_or bs (end - 1) 0) ≡ false) c.as_bytes-bytes.ensures.value (sym w.if-is_blank.ensures)
+          subst (λ bs. is_blank (get_or bs (end - 1) 0) ≡ false) c.as_bytes-bytes.ensures.value
+          (sym w.if-is_blank.ensures)
       | else-loop-end-test w ↦ λ some. absurd (omega (arith, w.loop-end-test.false))
     ] in
     let value : c.range.result.now ≡ take end text = grind (arith, common_steps) in

@@ -8,5 +8,6 @@ pub range_from-requires : goal.range_from-requires
 range_from-requires c = λ _.
     let text = c.args.text.now in
     let utf8 = subst IsUtf8 c.as_bytes.ensures.value c.as_bytes.ensures.utf8 in
-    let len : c.blank_len.result ≡ prefix_len is_blank text = c.blank_len.ensures ∙ ap (prefix_len is_blank) c.as_bytes.ensures.value in
+    let len : c.blank_len.result ≡ prefix_len is_blank text = c.blank_len.ensures
+    ∙ ap (prefix_len is_blank) c.as_bytes.ensures.value in
     behind_some is_blank blank_is_ascii text c.blank_len.result utf8 (omega (arith, len))

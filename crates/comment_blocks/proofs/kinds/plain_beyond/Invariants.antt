@@ -6,7 +6,8 @@ use Rattle.comment_blocks.proofs.kinds.plain_beyond.Given as goal
 
 -- the rest says the same
 abbrev pub invariant-loop-rest : goal.invariant-loop-rest
-invariant-loop-rest l = plain_beyond (pieces_of (texts l.rest)) ≡ plain_beyond (pieces_of (texts l.lines))
+invariant-loop-rest l = plain_beyond (pieces_of (texts l.rest))
+    ≡ plain_beyond (pieces_of (texts l.lines))
 
 abbrev pub decreases-loop-rest : goal.decreases-loop-rest
 decreases-loop-rest l = length l.rest

@@ -8,7 +8,8 @@ abbrev pub invariant-loop-rest : goal.invariant-loop-rest
 invariant-loop-rest l = record {
   left : l.seen + length l.rest ≡ length l.lines;
   within : l.len ≤ l.seen;
-  reached : (if reach (texts l.rest) == 0 then l.len else l.seen + reach (texts l.rest)) ≡ reach (texts l.lines);
+  reached : (if reach (texts l.rest) == 0 then l.len else l.seen + reach (texts l.rest))
+      ≡ reach (texts l.lines);
 }
 
 abbrev pub decreases-loop-rest : goal.decreases-loop-rest

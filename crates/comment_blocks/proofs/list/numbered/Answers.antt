@@ -8,5 +8,6 @@ pub cut-requires : goal.cut-requires
 cut-requires c =
     let line = c.args.line.now in
     let utf8 = subst IsUtf8 c.as_bytes.ensures.value c.as_bytes.ensures.utf8 in
-    let len : c.digit_len.result ≡ prefix_len is_ascii_digit line = c.digit_len.ensures ∙ ap (prefix_len is_ascii_digit) c.as_bytes.ensures.value in
+    let len : c.digit_len.result ≡ prefix_len is_ascii_digit line = c.digit_len.ensures
+    ∙ ap (prefix_len is_ascii_digit) c.as_bytes.ensures.value in
     behind_some is_ascii_digit digit_is_ascii line c.digit_len.result utf8 (omega (arith, len))

@@ -9,5 +9,6 @@ returns c =
     let text = c.args.text.now in
     let ran = c.last.ensures.ran in
     let same : ran.0 ≡ chars text =
-    Chars-Drains (chars text) ran.0 c.chars.result (encodes-chars text c.utf8.text ∙ sym c.chars.ensures.rest) ran.1 in
+    Chars-Drains (chars text) ran.0 c.chars.result
+    (encodes-chars text c.utf8.text ∙ sym c.chars.ensures.rest) ran.1 in
     ran.2 ∙ ap (last_or None) same

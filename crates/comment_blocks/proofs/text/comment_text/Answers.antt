@@ -9,7 +9,8 @@ use Rattle.comment_blocks.proofs.text.comment_text.Goals as goal
 
 pub push_comment-requires : goal.push_comment-requires
 push_comment-requires c =
-    contents c.args.source.now c.args.comments.now c.requires c.loop-comment.comment-index _ c.loop-comment-test.true
+    contents c.args.source.now c.args.comments.now c.requires c.loop-comment.comment-index _
+    c.loop-comment-test.true
 
 pub returns : goal.returns
 returns c =
@@ -18,6 +19,7 @@ returns c =
     c.from_string.ensures
     ∙ ap (λ (begun : Begun). begun.text)
     (c.lines-2.view_is
-    ∙ ap (λ comments. after_lines c.loop-comment.lines (flat_map (lines_of_comment c.args.source.now) comments)) (sym none)
+    ∙ ap (λ comments. after_lines c.loop-comment.lines
+    (flat_map (lines_of_comment c.args.source.now) comments)) (sym none)
     ∙ c.loop-comment.invariant)
     ∙ text_grows (flat_map (lines_of_comment c.args.source.now) c.args.comments.now)
