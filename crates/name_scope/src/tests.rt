@@ -82,57 +82,59 @@ const CASES: [Case; 3] = [
     ("example.com/b", "other", &["B"], &[]),
 ];
 
+/// What is looked up: what it shows, the qualifier, the name, and where it leads.
+const NAMES: [(&str, &str, &str, &str); 20] = [
+    ("the first of two types", "", "T", "0.0"),
+    ("a type named by the blank identifier", "", "_", "0.1"),
+    (
+        "a declared type before a predeclared one",
+        "",
+        "string",
+        "0.3",
+    ),
+    ("the first predeclared type", "", "any", "0"),
+    (
+        "a predeclared type out of the order of bytes",
+        "",
+        "complex128",
+        "5",
+    ),
+    ("the last predeclared type", "", "uintptr", "21"),
+    ("an unknown name", "", "V", "a V"),
+    ("the name of a package at hand", "b", "B", "1.1"),
+    ("a qualified name needs no capital", "b", "t", "1.0"),
+    (
+        "a predeclared name behind a qualifier",
+        "b",
+        "int",
+        "example.com/b/v2 int",
+    ),
+    ("a version after a dot", "yaml", "N", "gopkg.in/yaml.v3 N"),
+    (
+        "a version as the last segment",
+        "c",
+        "N",
+        "example.com/c/v12 N",
+    ),
+    ("a version alone", "v2", "N", "v2 N"),
+    ("v alone is no version", "v", "N", "example.com/d/v N"),
+    (
+        "digits and a letter are no version",
+        "v1x",
+        "N",
+        "example.com/e.v/v1x N",
+    ),
+    ("the first import of a name decides", "x", "B", "1.1"),
+    ("an import by the blank identifier", "_", "N", "other N"),
+    ("a dot import has no local name", ".", "N", "?. N"),
+    ("a dot import's path is none", "dot", "N", "?dot N"),
+    ("no such import", "q", "N", "?q N"),
+];
+
 #[test]
 fn names_lead_to_their_targets(rt: HostRuntime) -> Result<(), Fail> {
     let world = world_of(rt.alloc(), &CASES)?;
-    let cases = [
-        ("the first of two types", "", "T", "0.0"),
-        ("a type named by the blank identifier", "", "_", "0.1"),
-        (
-            "a declared type before a predeclared one",
-            "",
-            "string",
-            "0.3",
-        ),
-        ("the first predeclared type", "", "any", "0"),
-        (
-            "a predeclared type out of the order of bytes",
-            "",
-            "complex128",
-            "5",
-        ),
-        ("the last predeclared type", "", "uintptr", "21"),
-        ("an unknown name", "", "V", "a V"),
-        ("the name of a package at hand", "b", "B", "1.1"),
-        ("a qualified name needs no capital", "b", "t", "1.0"),
-        (
-            "a predeclared name behind a qualifier",
-            "b",
-            "int",
-            "example.com/b/v2 int",
-        ),
-        ("a version after a dot", "yaml", "N", "gopkg.in/yaml.v3 N"),
-        (
-            "a version as the last segment",
-            "c",
-            "N",
-            "example.com/c/v12 N",
-        ),
-        ("a version alone", "v2", "N", "v2 N"),
-        ("v alone is no version", "v", "N", "example.com/d/v N"),
-        (
-            "digits and a letter are no version",
-            "v1x",
-            "N",
-            "example.com/e.v/v1x N",
-        ),
-        ("the first import of a name decides", "x", "B", "1.1"),
-        ("an import by the blank identifier", "_", "N", "other N"),
-        ("a dot import has no local name", ".", "N", "?. N"),
-        ("a dot import's path is none", "dot", "N", "?dot N"),
-        ("no such import", "q", "N", "?q N"),
-    ];
-    for (shows, qualifier, name, line) in cases {
+    for (shows, qualifier, name, line) in NAMES {
         let found = line_of(rt.alloc(), &world, qualifier, name)?;
         assert_eq!(rt; found.as_str(), line, "{shows}");
     }
