@@ -1,9 +1,9 @@
 use crate::{
-    ChanDir, Decl, Element, Fault, Field, File, FuncDecl, Group, Param, Receiver, Seq, Signature,
-    Span, Term, TokenRange, Txt, TypeExpr, TypeParam, TypeSpec, copy_file, copy_type,
+    ChanDir, Decl, Element, Fault, Field, File, FuncDecl, Group, Mem, Param, Receiver, Seq,
+    Signature, Span, Term, TokenRange, Txt, TypeExpr, TypeParam, TypeSpec, copy_file, copy_type,
 };
 use sqlite_items::Boxed;
-use std::alloc::{AllocError, Global};
+use std::alloc::Global;
 use std::test::Fail;
 
 #[test]
@@ -40,21 +40,23 @@ fn range(first: u32, after: u32) -> TokenRange {
 }
 
 /// The list of one thing.
-fn one<T: Drop>(alloc: Global, only: T) -> Result<Seq<T>, AllocError> {
-    Ok(Seq::from_vec(vec![in alloc; only]?))
+fn one<T: Drop>(alloc: Global, only: T) -> Mem<Seq<T>> {
+    let mut list = Seq::new(alloc);
+    list.push(only)?;
+    Ok(list)
 }
 
 /// A name without arguments.
 fn named(alloc: Global, at: u32) -> TypeExpr {
     TypeExpr::Name {
-        qualifier: Some(span(at, at + 1)),
-        name: span(at + 2, at + 3),
+        qualifier: Some(span(0, at)),
+        name: span(at, at),
         args: Seq::new(alloc),
     }
 }
 
 /// A signature whose last parameter has three dots, and one result without a name.
-fn variadic(alloc: Global) -> Result<Signature, AllocError> {
+fn variadic(alloc: Global) -> Mem<Signature> {
     let param = Param {
         name: Some(span(1, 2)),
         typ: TypeExpr::Slice(Boxed::new(alloc, named(alloc, 6))?),
@@ -75,7 +77,7 @@ fn variadic(alloc: Global) -> Result<Signature, AllocError> {
 }
 
 /// A struct with one field, whose type is a map of channels and interfaces.
-fn structure(alloc: Global) -> Result<TypeExpr, AllocError> {
+fn structure(alloc: Global) -> Mem<TypeExpr> {
     let method = Element::Method {
         tokens: range(8, 11),
         name: span(20, 22),
@@ -99,7 +101,7 @@ fn structure(alloc: Global) -> Result<TypeExpr, AllocError> {
 }
 
 /// A generic alias of an array.
-fn alias(alloc: Global) -> Result<Decl, AllocError> {
+fn alias(alloc: Global) -> Mem<Decl> {
     let term = Term {
         tilde: true,
         typ: named(alloc, 3),
