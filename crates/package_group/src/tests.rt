@@ -1,6 +1,6 @@
 use crate::{FileFact, Grouped, group};
 use plain_data::Txt;
-use std::alloc::Global;
+use std::process::Abort;
 use std::test::Fail;
 
 /// A file with its path, its name and whether it is a test file.
@@ -8,7 +8,8 @@ type Case<'a> = (&'a str, &'a str, bool);
 
 /// The packages of these files, each as a line of its path, folder, name, files and tests, and then
 /// the other files.
-fn lines_of(alloc: Global, files: &[Case], prefix: &str) -> Result<String, Fail> {
+fn lines_of(rt: &(impl Abort + AllocGlobal), files: &[Case], prefix: &str) -> Result<String, Fail> {
+    let alloc = rt.alloc();
     let mut facts = Vec::new(alloc);
     for (path, name, test) in files {
         facts.push(FileFact {
@@ -17,6 +18,7 @@ fn lines_of(alloc: Global, files: &[Case], prefix: &str) -> Result<String, Fail>
             test: *test,
         })?;
     }
+    assert!(rt; facts.len() < 100);
     let Grouped { packages, others } = group(alloc, facts.as_slice(), prefix)?;
     let mut lines = String::new(alloc);
     for package in packages.as_slice() {
@@ -67,7 +69,7 @@ fn files_are_grouped_by_their_folders(rt: HostRuntime) -> Result<(), Fail> {
         ),
     ];
     for (shows, files, prefix, lines) in cases {
-        let found = lines_of(rt.alloc(), files, prefix)?;
+        let found = lines_of(&rt, files, prefix)?;
         assert_eq!(rt; found.as_str(), *lines, "{shows}");
     }
     Ok(())
@@ -118,7 +120,7 @@ fn a_package_has_the_name_of_its_files(rt: HostRuntime) -> Result<(), Fail> {
         ),
     ];
     for (shows, files, lines) in cases {
-        let found = lines_of(rt.alloc(), files, "")?;
+        let found = lines_of(&rt, files, "")?;
         assert_eq!(rt; found.as_str(), *lines, "{shows}");
     }
     Ok(())
