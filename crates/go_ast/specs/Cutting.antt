@@ -1,6 +1,6 @@
 -- Brackets, and lists that are cut at separators outside brackets. Public clauses cite these.
 use Rattle.std.specs.Prelude.{◌≡◌, ℕ, suc, ◌-◌, Bool, true, false, ◌&&◌, not, List, [], ◌∷◌, ◌++◌}
-use Rattle.std.specs.Prelude.{length, if◌then◌else◌, ◌==◌, unwrap_or, slice_get, ⊤}
+use Rattle.std.specs.Prelude.{Option, Some, None, length, if◌then◌else◌, ◌==◌, unwrap_or, slice_get, ⊤}
 use Rattle.go_ast.specs.declared.token.TokenRange.{TokenRange}
 use Rattle.go_ast.specs.declared.word.Word.{Word}
 use Rattle.go_ast.specs.declared.word.Mark.{Mark}
@@ -36,6 +36,21 @@ pieces_from mark depth front (w ∷ ws) =
 unfoldable pub pieces : Mark → List Word → List (List Word)
 pieces mark ws = pieces_from mark 0 [] ws
 
+abbrev pub in_front : Word → Option (List Word × List Word) → Option (List Word × List Word)
+in_front w None = None
+in_front w (Some (front, back)) = Some (w ∷ front, back)
+
+-- the words before the first separator outside brackets and those after it, or nothing where none
+-- stands there; with so many brackets open
+abbrev pub split_from : Mark → ℕ → List Word → Option (List Word × List Word)
+split_from mark depth [] = None
+split_from mark depth (w ∷ ws) =
+    if depth == 0 && same_mark w.mark mark then Some ([], ws)
+    else in_front w (split_from mark (depth_after depth w.mark) ws)
+
+unfoldable pub split_once : Mark → List Word → Option (List Word × List Word)
+split_once mark ws = split_from mark 0 ws
+
 -- each piece is one of the things, in order
 abbrev pub Each : {A : Type 0} → (List Word → A → Type 0) → List (List Word) → List A → Type 0
 Each S [] [] = ⊤
@@ -50,6 +65,11 @@ last_of w ws = unwrap_or (slice_get ws (length ws - 1)) w
 -- the tokens from the first word to the last
 abbrev pub range_of : Word → List Word → TokenRange
 range_of w ws = record { first = w.tokens.first; after = (last_of w ws).tokens.after }
+
+-- the tokens from the first word to the last, or none
+abbrev pub range_of_all : List Word → TokenRange
+range_of_all [] = record { first = 0; after = 0 }
+range_of_all (w ∷ ws) = range_of w ws
 
 -- the bracket that closes an opening one
 abbrev pub closing_of : Mark → Mark

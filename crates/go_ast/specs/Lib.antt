@@ -1,5 +1,8 @@
 pub mod Characters
+pub mod Chunks
 pub mod Cutting
+pub mod Declarations
+pub mod Files
 pub mod Lexical
 pub mod Marks
 pub mod Numbers
