@@ -1,0 +1,13 @@
+use Rattle.std.proofs.Common.{◌≡◌, ℕ, ◌<◌, ◌≤◌, length, get_or, true}
+use Rattle.synopsis_notes.specs.Synopses.{is_white}
+use Rattle.synopsis_notes.proofs.note.trim_back.Given as goal
+
+-- what stands behind the place goes
+abbrev pub invariant-loop-end : goal.invariant-loop-end
+invariant-loop-end l = record {
+  within : l.end ≤ length l.text;
+  behind : (k : ℕ) → l.end ≤ k → k < length l.text → is_white (get_or l.text k 0) ≡ true;
+}
+
+abbrev pub decreases-loop-end : goal.decreases-loop-end
+decreases-loop-end l = l.end
