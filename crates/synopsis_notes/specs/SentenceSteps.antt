@@ -1,5 +1,5 @@
 -- What a character adds to a sentence. Only contracts of private functions and proofs cite these.
-use Rattle.std.specs.Prelude.{◌≡◌, ℕ, Bool, true, false, List, [], ◌∷◌, ◌++◌, Option, Some, ◌||◌}
+use Rattle.std.specs.Prelude.{◌≡◌, ℕ, Bool, true, false, List, [], ◌∷◌, ◌++◌, Some}
 use Rattle.std.specs.Prelude.{MatchBool, encode_utf8, encode_utf8_all, string_bytes}
 use Rattle.synopsis_notes.specs.declared.sentence.Sentence.{Sentence}
 use Rattle.synopsis_notes.specs.Synopses.{is_white, sentence_behind, squeezed}
