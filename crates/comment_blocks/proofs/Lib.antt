@@ -5,8 +5,10 @@ pub mod Cuttings
 pub mod DocGroups
 pub mod Halves
 pub mod Items
+pub mod LaidOut
 pub mod LineCuts
 pub mod ListSteps
 pub mod Loops
+pub mod OneGroup
 pub mod Scans
 pub mod TextLines

@@ -17,7 +17,7 @@ use Rattle.comment_blocks.specs.Groups.{IsScan}
 use Rattle.comment_blocks.specs.GroupSteps.{IsInOrder, NeverFall}
 
 -- each value is at least the one before it, and the first at least the low end
-abbrev Climbs : {X : Type 0} → (X → ℕ) → ℕ → List X → Type 0
+abbrev pub Climbs : {X : Type 0} → (X → ℕ) → ℕ → List X → Type 0
 Climbs f low [] = ⊤
 Climbs f low (x ∷ xs) = (low ≤ f x) × Climbs f (f x) xs
 
@@ -26,7 +26,7 @@ from_lower : {X : Type 0} (f : X → ℕ) (low lower : ℕ) (xs : List X) → lo
 from_lower f low lower [] le h = tt
 from_lower f low lower (x ∷ xs) le h = (omega (arith, h.0), h.1)
 
-low_end : {X : Type 0} (f : X → ℕ) (low : ℕ) (xs : List X) → Climbs f low xs → (k : ℕ) (d : X)
+pub low_end : {X : Type 0} (f : X → ℕ) (low : ℕ) (xs : List X) → Climbs f low xs → (k : ℕ) (d : X)
     → k < length xs → low ≤ f (get_or xs k d)
 low_end f low [] h k d lt = absurd (omega arith)
 low_end f low (x ∷ xs) h zero d lt = h.0
@@ -54,7 +54,7 @@ lines_climb offset (b ∷ bytes) =
           from_lower (λ (o : ℕ). o) (offset + 1) offset _ (omega arith) rest
     ]
 
-abbrev start_of : Token → ℕ
+abbrev pub start_of : Token → ℕ
 start_of token = token.span.start
 
 abbrev end_of : Token → ℕ
@@ -97,7 +97,7 @@ item_ends (general_comment content) items start end later le h =
 item_ends (spelled spelling) items start end later le h =
     (le, semicolon_ends (takes_semicolon spelling && line_ends items) end later h)
 
-token_starts_climb : (items : List Item) (offset : ℕ)
+pub token_starts_climb : (items : List Item) (offset : ℕ)
     → Climbs start_of offset (tokens_of offset items)
 token_starts_climb [] offset = tt
 token_starts_climb (item ∷ items) offset =

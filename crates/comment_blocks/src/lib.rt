@@ -17,5 +17,5 @@ mod text;
 pub use block::{Block, Item, LinkDef};
 pub use group::doc_group;
 pub use kinds::blocks;
-pub use laws::lines_have_one_cutting;
+pub use laws::{lines_have_one_cutting, one_doc_group};
 pub use text::comment_text;
