@@ -1,6 +1,6 @@
 -- Brackets, as they are read and as they are spelled.
 use Rattle.std.proofs.Common.{◌≡◌, ◌∙◌, ap, sym, refl, subst, true, List, [], ◌∷◌}
-use Rattle.std.proofs.Common.{◌++◌, Some}
+use Rattle.std.proofs.Common.{◌++◌, drop, Some}
 use Rattle.go_ast.specs.declared.word.Word.{Word}
 use Rattle.go_ast.specs.declared.word.Mark.{Mark}
 use Rattle.go_ast.specs.Cutting.{Encloses, encloses}
@@ -40,3 +40,12 @@ pub alone-complete : (close : Mark) (us inner : List Word) → enclosed close us
     → alone close us ≡ Some inner
 unfolding alone
 alone-complete close us inner e = rw e refl
+
+-- the words that are enclosed are read
+pub enclosed-complete : (opening close : Mark) (o : Word) (ws inner rest : List Word)
+    → closes close ≡ true → Encloses opening close (o ∷ ws) inner rest
+    → enclosed close ws ≡ Some (inner, rest)
+enclosed-complete opening close o ws inner rest closed s =
+    let begun = opens-with opening close (o ∷ ws) inner rest closed s in
+    let same : ws ≡ begun.1 = ap (drop 1) begun.2 in
+    ap (enclosed close) same ∙ begun.4

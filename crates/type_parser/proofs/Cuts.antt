@@ -4,17 +4,17 @@ use Rattle.std.proofs.Common.{true, false, List, [], ◌∷◌, ◌++◌, revers
 use Rattle.std.proofs.Common.{drop, get_or, Some, None, arith}
 use Rattle.go_ast.specs.declared.word.Word.{Word}
 use Rattle.go_ast.specs.declared.word.Mark.{Mark}
-use Rattle.go_ast.specs.Cutting.{pieces}
+use Rattle.go_ast.specs.Cutting.{pieces, split_once}
 use Rattle.go_ast.specs.Marks.{opens, closes, same_mark}
 use Rattle.type_parser.specs.declared.matching.Matched.{Matched}
 use Rattle.type_parser.specs.Cut.{inside, before, enclosed}
 use Rattle.type_parser.specs.Matching.{plain, AreMatched, stride, unmatched}
-use Rattle.type_parser.proofs.MatchedWords.{plain-length, plain-take, plain-drop}
-use Rattle.type_parser.proofs.MatchedWords.{matched-take, matched-drop, before-stride, rest-is}
-use Rattle.type_parser.proofs.MatchedWords.{one-less, unmatched-inside, length-drop}
+use Rattle.type_parser.proofs.WordMatching.{plain-length, plain-take, plain-drop}
+use Rattle.type_parser.proofs.WordMatching.{matched-take, matched-drop, before-stride, rest-is}
+use Rattle.type_parser.proofs.WordMatching.{one-less, unmatched-inside, length-drop}
 use Rattle.type_parser.proofs.EntryLists.{from-place, length-reverse}
 use Rattle.std.proofs.lemmas.List.{reverse-append}
-use Rattle.type_parser.proofs.Pieces.{piece-then, piece-all}
+use Rattle.type_parser.proofs.Pieces.{piece-then, piece-all, split-then, split-none}
 
 -- the words after the first
 pub plain-rest : (ws : List Matched) → plain (take (length ws - 1) (drop 1 ws)) ≡ drop 1 (plain ws)
@@ -122,6 +122,28 @@ split-more mark items front back n is f b some =
     rw rest (piece-then mark (plain items) (plain front) (plain back) n is
     (ap plain f ∙ plain-take n items) (ap plain b ∙ plain-drop n items)
     (omega (arith, some, count)))
+
+-- the cut at the first separator
+pub once-more : (mark : Mark) (items front back : List Matched) (n : ℕ)
+    → n ≡ before mark 0 (plain items) → front ≡ take n items → back ≡ drop n items
+    → 1 ≤ length back → split_once mark (plain items)
+    ≡ Some (plain front, plain (take (length back - 1) (drop 1 back)))
+once-more mark items front back n is f b some =
+    let count = plain-length back in
+    let rest : plain (take (length back - 1) (drop 1 back))
+    ≡ take (length (plain back) - 1) (drop 1 (plain back))
+    = rw (plain-take (length back - 1) (drop 1 back), plain-drop 1 back, count) refl in
+    rw rest (split-then mark (plain items) (plain front) (plain back) n is
+    (ap plain f ∙ plain-take n items) (ap plain b ∙ plain-drop n items)
+    (omega (arith, some, count)))
+
+pub once-none : (mark : Mark) (items back : List Matched) (n : ℕ)
+    → n ≡ before mark 0 (plain items) → back ≡ drop n items → length back < 1
+    → split_once mark (plain items) ≡ None
+once-none mark items back n is b none =
+    let count = plain-length back in
+    split-none mark (plain items) (plain back) n is (ap plain b ∙ plain-drop n items)
+    (omega (arith, none, count))
 
 -- without one there is one piece in all
 pub split-all : (mark : Mark) (items back : List Matched) (n : ℕ) → 0 < length (plain items)

@@ -7,15 +7,15 @@ use Rattle.go_ast.specs.declared.token.Span.{Span}
 use Rattle.go_ast.specs.declared.token.TokenRange.{TokenRange}
 use Rattle.go_ast.specs.declared.word.Word.{Word}
 use Rattle.go_ast.specs.declared.word.Mark.TheVariants as m
-use Rattle.go_ast.specs.Cutting.{last_of}
+use Rattle.go_ast.specs.Cutting.{last_of, range_of_all}
 use Rattle.go_ast.specs.Marks.{same_mark}
 use Rattle.go_ast.specs.Types.{split_tag}
 use Rattle.type_parser.specs.declared.matching.Matched.{Matched}
-use Rattle.type_parser.specs.Matching.{plain, range_of_all}
+use Rattle.type_parser.specs.Matching.{plain}
 use Rattle.type_parser.specs.Reading.{◌<$>◌, declared, with_name, one_name}
 use Rattle.type_parser.specs.Entries.{after_names}
 use Rattle.type_parser.specs.Members.{ends_with_bar}
-use Rattle.type_parser.proofs.MatchedWords.{one-less}
+use Rattle.type_parser.proofs.WordMatching.{one-less}
 
 any-default : (u : Word) (us : List Word) (v w : Word)
     → unwrap_or (slice_get (u ∷ us) (length us)) v ≡ unwrap_or (slice_get (u ∷ us) (length us)) w

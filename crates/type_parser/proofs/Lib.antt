@@ -1,4 +1,3 @@
-mod MatchedWords
 mod Closed
 mod Closing
 mod Cuts
@@ -10,3 +9,7 @@ mod Options
 mod ParamLaws
 mod Pieces
 mod TypeLaws
+mod TypeParamLaws
+mod TypeParamLists
+mod WordMatching
+pub mod GrammarLaws

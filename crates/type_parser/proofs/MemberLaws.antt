@@ -86,7 +86,7 @@ module _ (f : List Word → Option TypeExpr) (S : List Word → TypeExpr → Typ
   abbrev Complete : Type 0
   Complete = (ws : List Word) (x : TypeExpr) → S ws x → f ws ≡ Some x
 
-  declared-sound : Sound → (ws : List Word) (y : List Span × TypeExpr)
+  pub declared-sound : Sound → (ws : List Word) (y : List Span × TypeExpr)
       → reads.declared f ws ≡ Some y → g.Declared S ws y.0 y.1
   declared-sound h [] y e = absurd (cc)
   declared-sound h (name ∷ []) y e = absurd (cc)
@@ -229,7 +229,7 @@ module _ (f : List Word → Option TypeExpr) (S : List Word → TypeExpr → Typ
       all.0 all.1))
 
   -- the other way round
-  declared-complete : Complete → Reads f → (ws : List Word) (names : List Span) (x : TypeExpr)
+  pub declared-complete : Complete → Reads f → (ws : List Word) (names : List Span) (x : TypeExpr)
       → g.Declared S ws names x → reads.declared f ws ≡ Some (names, x)
   declared-complete h r _ _ x (g.one name {ws = []} is s) = absurd (cc (h [] x s, r.nothing))
   declared-complete h r _ _ x (g.one name {ws = w ∷ ws} is s) =

@@ -1,11 +1,14 @@
 -- Lists that are cut at separators.
-use Rattle.std.proofs.Common.{◌≡◌, ◌∙◌, ap, sym, refl, ℕ, Bool, true}
+use Rattle.std.proofs.Common.{◌≡◌, ◌∙◌, ap, sym, refl, ℕ, suc, Bool, true}
+use Rattle.std.proofs.lemmas.Bool.Decides.{nat_tests}
 use Rattle.std.proofs.Common.{false, ◌&&◌, ◌==◌, List, [], ◌∷◌, ◌++◌, append_assoc}
-use Rattle.std.proofs.Common.{append-nil, length, take, drop, arith, ◌-◌, ◌≤◌, ◌<◌, take_all}
+use Rattle.std.proofs.Common.{Option, Some, None, append-nil, length, take, drop, arith, ◌-◌, ◌≤◌, ◌<◌, take_all}
 use Rattle.go_ast.specs.declared.word.Word.{Word}
 use Rattle.go_ast.specs.declared.word.Mark.{Mark}
-use Rattle.go_ast.specs.Cutting.{depth_after, pieces_from, pieces}
+use Rattle.go_ast.specs.declared.word.Mark.TheVariants as m
+use Rattle.go_ast.specs.Cutting.{depth_after, in_front, pieces_from, pieces, split_from, split_once}
 use Rattle.go_ast.specs.Marks.{same_mark}
+use Rattle.go_ast.specs.TypeParameters.{ends_with_comma, is_one_piece}
 use Rattle.type_parser.specs.Cut.{before}
 
 -- a separator outside brackets
@@ -93,3 +96,85 @@ pub no-pieces : (mark : Mark) (ws : List Word) → length ws ≡ 0 → pieces ma
 unfolding pieces
 no-pieces mark [] e = refl
 no-pieces mark (w ∷ ws) e = absurd (omega arith)
+
+-- the cut at the first separator, as the code makes it
+abbrev at_separator : List Word → List Word → Option (List Word × List Word)
+at_separator front [] = None
+at_separator front (s ∷ rest) = Some (front, rest)
+
+split_from-is : (mark : Mark) (depth : ℕ) (ws : List Word) → split_from mark depth ws
+    ≡ at_separator (take (before mark depth ws) ws) (drop (before mark depth ws) ws)
+split_from-is mark depth [] = refl
+split_from-is mark depth (w ∷ ws) = go (cuts mark depth w) refl
+    (split_from-is mark (depth_after depth w.mark) ws)
+  where
+    moved : (front back : List Word)
+        → in_front w (at_separator front back) ≡ at_separator (w ∷ front) back
+    moved front [] = refl
+    moved front (s ∷ rest) = refl
+
+    go : (t : Bool) → cuts mark depth w ≡ t
+        → split_from mark (depth_after depth w.mark) ws
+        ≡ at_separator (take (before mark (depth_after depth w.mark) ws) ws)
+        (drop (before mark (depth_after depth w.mark) ws) ws)
+        → split_from mark depth (w ∷ ws)
+        ≡ at_separator (take (before mark depth (w ∷ ws)) (w ∷ ws))
+        (drop (before mark depth (w ∷ ws)) (w ∷ ws))
+    go true h ih = rw h refl
+    go false h ih = rw (h, ih) (moved (take (before mark (depth_after depth w.mark) ws) ws)
+        (drop (before mark (depth_after depth w.mark) ws) ws))
+
+pub split-then : (mark : Mark) (ws front back : List Word) (n : ℕ) → n ≡ before mark 0 ws
+    → front ≡ take n ws → back ≡ drop n ws → 1 ≤ length back
+    → split_once mark ws ≡ Some (front, take (length back - 1) (drop 1 back))
+unfolding split_once
+split-then mark ws front [] n is f b some = absurd (omega arith)
+split-then mark ws front (s ∷ rest) n is f b some =
+    let whole : take (length (s ∷ rest) - 1) rest ≡ rest =
+    take_all (length (s ∷ rest) - 1) rest (omega arith) in
+    split_from-is mark 0 ws ∙ (rw (whole, ← is, ← b, ← f) refl)
+
+pub split-none : (mark : Mark) (ws back : List Word) (n : ℕ) → n ≡ before mark 0 ws
+    → back ≡ drop n ws → length back < 1 → split_once mark ws ≡ None
+unfolding split_once
+split-none mark ws [] n is b none = split_from-is mark 0 ws ∙ (rw (← is, ← b) refl)
+split-none mark ws (s ∷ rest) n is b none = absurd (omega arith)
+
+-- some words make some piece
+some-piece : (mark : Mark) (w : Word) (ws : List Word)
+    → (p : List Word) × (ps : List (List Word)) × (pieces mark (w ∷ ws) ≡ p ∷ ps)
+some-piece mark w ws = go (drop (before mark 0 (w ∷ ws)) (w ∷ ws)) refl
+  where
+    go : (back : List Word) → drop (before mark 0 (w ∷ ws)) (w ∷ ws) ≡ back
+        → (p : List Word) × (ps : List (List Word)) × (pieces mark (w ∷ ws) ≡ p ∷ ps)
+    go [] e = (w ∷ ws, pieces mark [], pieces-last mark w ws e)
+    go (s ∷ rest) e = (
+      take (before mark 0 (w ∷ ws)) (w ∷ ws),
+      pieces mark rest,
+      pieces-more mark (w ∷ ws) s rest e,
+    )
+
+some-words : (n : ℕ) → (suc n == 0) ≡ false
+some-words n = grind (arith, nat_tests)
+
+pub one-piece : (mark : Mark) (ws p rest : List Word) → pieces mark ws ≡ p ∷ pieces mark rest
+    → (length rest == 0) ≡ is_one_piece (pieces mark ws)
+unfolding pieces
+one-piece mark ws p [] e = rw e refl
+one-piece mark ws p (r ∷ rest) e = let more = some-piece mark r rest in
+    rw (e, more.2, some-words (length rest)) refl
+
+pub no-one-piece : (mark : Mark) (ws : List Word) → length ws ≡ 0
+    → false ≡ is_one_piece (pieces mark ws)
+no-one-piece mark ws none = rw (no-pieces mark ws none) refl
+
+comma-at : (front : List Word) (last : Word)
+    → ends_with_comma (front ++ last ∷ []) ≡ same_mark last.mark m.Comma
+comma-at [] last = refl
+comma-at (w ∷ []) last = refl
+comma-at (w ∷ v ∷ front) last = comma-at (v ∷ front) last
+
+-- whether the last word is a comma
+pub comma_is : (ws front : List Word) (last : Word) → ws ≡ front ++ last ∷ []
+    → same_mark last.mark m.Comma ≡ ends_with_comma ws
+comma_is ws front last e = rw e (sym (comma-at front last))

@@ -4,3 +4,4 @@ pub mod Matching
 pub mod Members
 pub mod Parts
 pub mod Reading
+pub mod TypeParams

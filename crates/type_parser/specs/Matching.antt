@@ -2,9 +2,7 @@
 use Rattle.std.specs.Prelude.{◌≡◌, ℕ, suc, min, List, []}
 use Rattle.std.specs.Prelude.{◌∷◌, length, drop, if◌then◌else◌}
 use Rattle.std.specs.Prelude.{⊤}
-use Rattle.go_ast.specs.declared.token.TokenRange.{TokenRange}
 use Rattle.go_ast.specs.declared.word.Word.{Word}
-use Rattle.go_ast.specs.Cutting.{range_of}
 use Rattle.go_ast.specs.Marks.{opens, closes}
 use Rattle.type_parser.specs.declared.matching.Matched.{Matched}
 use Rattle.type_parser.specs.Cut.{inside}
@@ -31,8 +29,3 @@ unmatched (w ∷ ws) = if opens w.mark then drop 1 (unmatched ws)
 abbrev pub stride : List Word → ℕ
 stride [] = 0
 stride (w ∷ ws) = if opens w.mark then suc (min (suc (inside 0 ws)) (length ws)) else 1
-
--- the tokens from the first word to the last
-abbrev pub range_of_all : List Word → TokenRange
-range_of_all [] = record { first = 0; after = 0 }
-range_of_all (w ∷ ws) = range_of w ws

@@ -1,7 +1,9 @@
-//! The types that tokens spell (Go specification, "Types").
+//! The types, signatures and type parameters that tokens spell (Go specification, "Types",
+//! "Type parameter declarations").
 #![tactic(auto)]
 
 mod cut;
+mod grammar;
 mod laws;
 mod mark;
 mod matching;
@@ -12,7 +14,14 @@ mod run;
 mod signature;
 #[cfg(test)]
 mod tests;
+mod type_params;
 mod words;
 
-pub use laws::{levels_agree, spelled_once};
+pub use grammar::{declared_in, entries_in, signature_in, type_in, type_params_in};
+pub use laws::{
+    cut_where_enclosed, declared_once, levels_agree, signature_spelled_once, spelled_once,
+    type_params_spelled_once,
+};
+pub use mark::word_at;
 pub use parse::parse_type;
+pub use words::{MatchedWords, Words, matched_words};

@@ -1,6 +1,6 @@
 //! What tokens are to the grammar.
 
-ghost use Rattle.std.specs.Prelude.{◌≡◌, ◌<◌, ◌≤◌, ◌+◌, ◌^◌, length, IfOk};
+ghost use Rattle.std.specs.Prelude.{◌≡◌, ◌<◌, ◌≤◌, ◌+◌, ◌^◌, ◌∷◌, [], length, IfOk};
 ghost use Rattle.std.specs.Str.{bytes_eq};
 ghost use Rattle.go_ast.specs.Marks as spec;
 
@@ -145,4 +145,15 @@ pub fn words_of(alloc: Global, source: &[u8], tokens: &[Token], range: TokenRang
 {
     let tokens = &tokens[range.first as usize..range.after as usize];
     words_from(alloc, source, range.first, tokens)
+}
+
+/// The token at a place in a source's list of tokens, as a word.
+#[tactic(auto, unfolding(go_ast::specs::Marks::words_of))]
+pub fn word_at(source: &[u8], tokens: &[Token], place: u32) -> Word
+    requires within { place < length tokens.now }
+    requires small { place + 1 < 2 ^ 32 }
+    ensures { spec.words_of source.now tokens.now (record { first = place; after = place + 1 })
+        ≡ result ∷ [] }
+{
+    word_of(source, place, &tokens[place as usize])
 }

@@ -58,11 +58,11 @@ fn match_backwards(alloc: Global, words: &[Word]) -> Mem<Vec<Matched>>
 }
 
 /// The words with their brackets matched.
-pub fn match_brackets(alloc: Global, words: &[Word]) -> Mem<Vec<Matched>>
-    ensures words { IfOk result (λ found. spec.plain found.items ≡ words.now) }
+pub fn match_brackets(alloc: Global, words: Vec<Word>) -> Mem<Vec<Matched>>
+    ensures words { IfOk result (λ found. spec.plain found.items ≡ words.items) }
     ensures matched { IfOk result (λ found. spec.AreMatched found.items) }
 {
-    let mut found = match_backwards(alloc, words)?;
+    let mut found = match_backwards(alloc, &words)?;
     found.reverse();
     Ok(found)
 }

@@ -52,7 +52,7 @@ fn ends_with_bar(words: &Words<'_>) -> bool
 
 impl<F: Fn(Global, usize, &Words<'_>) -> Read<TypeExpr>> Reader<F> {
     /// Names with commas between, and their type.
-    fn declared(&self, words: &Words<'_>) -> Read<(Seq<Span>, TypeExpr)>
+    pub fn declared(&self, words: &Words<'_>) -> Read<(Seq<Span>, TypeExpr)>
         requires { ReadsParts self.now.levels (F.pre self.now.part) (F.post self.now.part) }
         ensures { IfOk result (λ o. o ≡ spec.declared (spec.type_of self.now.levels) words.now) }
     {
@@ -217,7 +217,7 @@ impl<F: Fn(Global, usize, &Words<'_>) -> Read<TypeExpr>> Reader<F> {
 
     /// The terms of a union, of which there is at least one.
     #[tactic(auto, unfolding(crate::specs::Reading::read_terms, crate::specs::Members::terms_in))]
-    fn terms(&self, words: &Words<'_>) -> Read<Seq<Term>>
+    pub fn terms(&self, words: &Words<'_>) -> Read<Seq<Term>>
         requires { ReadsParts self.now.levels (F.pre self.now.part) (F.post self.now.part) }
         ensures { IfOk result (λ o. o ≡ spec.read_terms (spec.type_of self.now.levels) words.now) }
     {

@@ -1,13 +1,11 @@
-//! The public call.
+//! The type of a range of tokens.
 
 ghost use Rattle.std.specs.Prelude.{◌≡◌, ◌≤◌, IfOk, MatchOption, length};
 ghost use Rattle.go_ast.specs.declared.tree.TypeExpr.{TypeExpr};
 ghost use Rattle.go_ast.specs.Types.{SpellsType};
 
-use crate::mark::words_of;
-use crate::matching::match_brackets;
-use crate::reader::type_of;
-use crate::words::Words;
+use crate::grammar::type_in;
+use crate::words::matched_words;
 use go_ast::{Mem, Scanned, TokenRange, TypeExpr};
 use std::alloc::Global;
 
@@ -27,7 +25,6 @@ pub fn parse_type(
         ((typ : TypeExpr) → SpellsType source.now scanned.now.tokens range typ → ⊥)
         (λ typ. SpellsType source.now scanned.now.tokens range typ)) }
 {
-    let words = words_of(alloc, source, scanned.tokens.as_slice(), range)?;
-    let matched = match_brackets(alloc, &words)?;
-    type_of(alloc, 200, &Words::new(&matched))
+    let words = matched_words(alloc, source, scanned.tokens.as_slice(), range)?;
+    type_in(alloc, &words.all())
 }

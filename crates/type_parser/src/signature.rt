@@ -17,7 +17,7 @@ use go_ast::{Mark, Mem, Param, Seq, Signature, TypeExpr, copy_type};
 use std::alloc::Global;
 
 /// The pieces between commas outside brackets.
-fn entries_of<'a>(alloc: Global, words: &Words<'a>) -> Mem<Vec<Words<'a>>>
+pub fn entries_of<'a>(alloc: Global, words: &Words<'a>) -> Mem<Vec<Words<'a>>>
     ensures { IfOk result (λ found. found.items ≡ pieces marks.Comma words.now) }
 {
     let mut found = Vec::new(alloc);

@@ -1,7 +1,12 @@
 //! Types as texts whose tokens stand one blank apart.
 
-use crate::parse_type;
-use go_ast::{ChanDir, Element, Mem, Scanned, Seq, Span, Token, TokenKind, TokenRange, TypeExpr};
+use crate::{
+    MatchedWords, declared_in, entries_in, matched_words, parse_type, signature_in, type_params_in,
+    word_at,
+};
+use go_ast::{
+    ChanDir, Element, Mark, Mem, Scanned, Seq, Span, Token, TokenKind, TokenRange, TypeExpr,
+};
 use std::alloc::{AllocError, Global};
 use std::process::Abort;
 use std::test::Fail;
@@ -186,5 +191,203 @@ fn two_hundred_levels_are_the_most(rt: HostRuntime) -> Result<(), Fail> {
         let more = nested(rt.alloc(), opening, 200, closing)?;
         assert!(rt; parsed(rt.alloc(), more.as_str())?.is_none(), "{opening}");
     }
+    Ok(())
+}
+
+/// The words of all tokens of a text.
+fn words(alloc: Global, text: &str) -> Mem<MatchedWords> {
+    let scanned = scanned(alloc, text)?;
+    let tokens = scanned.tokens.as_slice();
+    let after = u32::try_from(tokens.len()).unwrap_or(0);
+    matched_words(
+        alloc,
+        text.as_bytes(),
+        tokens,
+        TokenRange { first: 0, after },
+    )
+}
+
+#[test]
+fn words_after_the_name_of_a_type_are_type_parameters(rt: HostRuntime) -> Result<(), Fail> {
+    for text in [
+        "P * C ,",
+        "P * C | ~ D",
+        "P ( C ) ,",
+        "a , b C",
+        "P any",
+        "P , Q interface { m ( ) } , R p . C [ int ]",
+        "P * [ ] C",
+    ] {
+        let words = words(rt.alloc(), text)?;
+        let found = type_params_in(rt.alloc(), &words.all())?;
+        assert!(rt; found.is_some(), "{text}");
+    }
+    Ok(())
+}
+
+#[test]
+fn words_after_the_name_of_a_type_are_a_length(rt: HostRuntime) -> Result<(), Fail> {
+    for text in [
+        "P * C",
+        "P ( C )",
+        "P ( C ) ( D )",
+        "a , b",
+        "n",
+        "n + 1",
+        "P C , Q",
+        "P C , , Q C",
+        "P C |",
+        "1 C",
+    ] {
+        let words = words(rt.alloc(), text)?;
+        let found = type_params_in(rt.alloc(), &words.all())?;
+        assert!(rt; found.is_none(), "{text}");
+    }
+    let scanned = scanned(rt.alloc(), "n")?;
+    let none = TokenRange { first: 0, after: 0 };
+    let words = matched_words(rt.alloc(), b"n", scanned.tokens.as_slice(), none)?;
+    let found = type_params_in(rt.alloc(), &words.all())?;
+    assert!(rt; found.is_none());
+    Ok(())
+}
+
+#[test]
+fn after_the_name_of_a_function_nothing_is_a_length(rt: HostRuntime) -> Result<(), Fail> {
+    let words = words(rt.alloc(), "P * C")?;
+    match entries_in(rt.alloc(), &words.all())? {
+        Some(params) => assert_eq!(rt; params.len(), 1),
+        None => assert!(rt; false),
+    }
+    Ok(())
+}
+
+#[test]
+fn names_before_one_bound_are_a_parameter_each(rt: HostRuntime) -> Result<(), Fail> {
+    let words = words(rt.alloc(), "K , V ~ int | * T , W any")?;
+    let Some(params) = type_params_in(rt.alloc(), &words.all())? else {
+        assert!(rt; false);
+        return Ok(());
+    };
+    assert_eq!(rt; params.len(), 3);
+    match params.get(0) {
+        Some(first) => {
+            assert_eq!(rt; first.name, Span { start: 0, end: 1 });
+            assert_eq!(rt; first.bound.len(), 2);
+        }
+        None => assert!(rt; false),
+    }
+    Ok(())
+}
+
+#[test]
+fn parameters_and_results_are_a_signature(rt: HostRuntime) -> Result<(), Fail> {
+    for text in [
+        "( )",
+        "( a , b T )",
+        "( a T ) U",
+        "( ) ( T , error )",
+        "( f func ( ) ) ( n int , err error )",
+        "( ) struct { }",
+    ] {
+        let words = words(rt.alloc(), text)?;
+        let found = signature_in(rt.alloc(), &words.all())?;
+        assert!(rt; found.is_some(), "{text}");
+    }
+    for text in [
+        "T",
+        "( ) ( ... T )",
+        "( ) T U",
+        "( a T , b )",
+        "( ) struct",
+        "( ) ( T ) { }",
+        "[ P C ] ( )",
+    ] {
+        let words = words(rt.alloc(), text)?;
+        let found = signature_in(rt.alloc(), &words.all())?;
+        assert!(rt; found.is_none(), "{text}");
+    }
+    Ok(())
+}
+
+#[test]
+fn names_and_a_type_are_declared(rt: HostRuntime) -> Result<(), Fail> {
+    let two = words(rt.alloc(), "a , b [ n ] T")?;
+    match declared_in(rt.alloc(), &two.all())? {
+        Some((names, TypeExpr::Array { .. })) => assert_eq!(rt; names.len(), 2),
+        _ => assert!(rt; false),
+    }
+    for text in ["a", "a ,", "a , b", "1 T", "a b c"] {
+        let words = words(rt.alloc(), text)?;
+        let found = declared_in(rt.alloc(), &words.all())?;
+        assert!(rt; found.is_none(), "{text}");
+    }
+    Ok(())
+}
+
+#[test]
+fn words_are_cut_at_separators_outside_brackets(rt: HostRuntime) -> Result<(), Fail> {
+    let words = words(rt.alloc(), "f ( a = b ) = c = d")?;
+    let all = words.all();
+    match all.split_once(Mark::Equal) {
+        Some((front, back)) => {
+            assert_eq!(rt; front.range(), TokenRange { first: 0, after: 6 });
+            assert_eq!(rt;
+                back.range(),
+                TokenRange {
+                    first: 7,
+                    after: 10
+                }
+            );
+            assert!(rt; back.split_once(Mark::Comma).is_none());
+        }
+        None => assert!(rt; false),
+    }
+    if !all.is_empty() {
+        let (piece, rest) = all.split_piece(Mark::Equal);
+        assert_eq!(rt; piece.range(), TokenRange { first: 0, after: 6 });
+        assert_eq!(rt;
+            rest.range(),
+            TokenRange {
+                first: 7,
+                after: 10
+            }
+        );
+    }
+    Ok(())
+}
+
+#[test]
+fn words_are_cut_at_their_ends(rt: HostRuntime) -> Result<(), Fail> {
+    let words = words(rt.alloc(), "( a ) b")?;
+    let all = words.all();
+    match all.enclosed(Mark::CloseParen) {
+        Some((inner, after)) => {
+            assert_eq!(rt; inner.range(), TokenRange { first: 1, after: 2 });
+            assert_eq!(rt; after.range(), TokenRange { first: 3, after: 4 });
+        }
+        None => assert!(rt; false),
+    }
+    assert!(rt; all.alone(Mark::CloseParen).is_none());
+    match all.split_first() {
+        Some((first, _)) => assert_eq!(rt; first.mark, Mark::OpenParen),
+        None => assert!(rt; false),
+    }
+    match all.split_last() {
+        Some((front, last)) => {
+            assert!(rt; front.alone(Mark::CloseParen).is_some());
+            assert_eq!(rt; last.tokens, TokenRange { first: 3, after: 4 });
+        }
+        None => assert!(rt; false),
+    }
+    Ok(())
+}
+
+#[test]
+fn a_token_is_a_word_at_its_place(rt: HostRuntime) -> Result<(), Fail> {
+    let scanned = scanned(rt.alloc(), "a . b")?;
+    assert!(rt; 1 < scanned.tokens.len());
+    let word = word_at(b"a . b", scanned.tokens.as_slice(), 1);
+    assert_eq!(rt; word.mark, Mark::Dot);
+    assert_eq!(rt; word.span, Span { start: 2, end: 3 });
     Ok(())
 }

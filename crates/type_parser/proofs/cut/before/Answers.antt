@@ -1,6 +1,6 @@
 use Rattle.std.proofs.Common.{◌∙◌, ap, sym, arith, length}
 use Rattle.type_parser.specs.Matching.{plain, stride}
-use Rattle.type_parser.proofs.MatchedWords.{matched-take, matched-drop, tail-is, length-drop}
+use Rattle.type_parser.proofs.WordMatching.{matched-take, matched-drop, tail-is, length-drop}
 use Rattle.type_parser.proofs.Cuts.{passes}
 use Rattle.type_parser.proofs.cut.before.Goals as goal
 

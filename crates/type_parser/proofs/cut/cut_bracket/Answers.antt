@@ -1,6 +1,6 @@
 use Rattle.std.proofs.Common.{◌∙◌, ap, subst, sym, arith}
 use Rattle.type_parser.specs.Matching.{plain, AreMatched}
-use Rattle.type_parser.proofs.MatchedWords.{matched-take, matched-drop}
+use Rattle.type_parser.proofs.WordMatching.{matched-take, matched-drop}
 use Rattle.type_parser.proofs.Cuts.{cut-inner, cut-back, matched-rest, rest-count}
 use Rattle.type_parser.proofs.cut.cut_bracket.Goals as goal
 

@@ -1,5 +1,5 @@
 use Rattle.std.proofs.Common.{◌∙◌, ap, sym, ◌==◌}
-use Rattle.type_parser.proofs.MatchedWords.{plain-length}
+use Rattle.type_parser.proofs.WordMatching.{plain-length}
 use Rattle.type_parser.proofs.words.Words.is_empty.Goals as goal
 
 pub returns : goal.returns

@@ -5,7 +5,7 @@ use Rattle.go_ast.specs.declared.word.Word.{Word}
 use Rattle.go_ast.specs.Cutting.{is_run}
 use Rattle.type_parser.specs.Matching.{plain}
 use Rattle.type_parser.specs.Reading.{may_be_length}
-use Rattle.type_parser.proofs.MatchedWords.{plain-length}
+use Rattle.type_parser.proofs.WordMatching.{plain-length}
 use Rattle.type_parser.proofs.words.Words.may_be_length.Goals as goal
 
 run-is : (ws : List Word) → 0 < length ws → is_run ws ≡ may_be_length ws

@@ -1,5 +1,5 @@
 use Rattle.std.proofs.Common.{◌∙◌, ap}
-use Rattle.type_parser.specs.Matching.{range_of_all}
+use Rattle.go_ast.specs.Cutting.{range_of_all}
 use Rattle.type_parser.proofs.FieldNames.{range-is}
 use Rattle.type_parser.proofs.words.Words.range.Goals as goal
 

@@ -1,5 +1,5 @@
 use Rattle.std.proofs.Common.{◌∙◌, sym}
-use Rattle.type_parser.proofs.MatchedWords.{matched-take}
+use Rattle.type_parser.proofs.WordMatching.{matched-take}
 use Rattle.type_parser.proofs.Cuts.{last-split}
 use Rattle.type_parser.proofs.words.Words.split_last.Goals as goal
 
