@@ -1,3 +1,4 @@
 pub mod Cuts
+pub mod FirstSentences
 pub mod Sentences
 pub mod Words

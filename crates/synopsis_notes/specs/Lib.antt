@@ -1,3 +1,4 @@
 pub mod Notes
 pub mod SentenceSteps
+pub mod Sentences
 pub mod Synopses

@@ -2,11 +2,13 @@
 //! whether something is deprecated.
 #![tactic(auto)]
 
+mod laws;
 mod note;
 mod sentence;
 mod summary;
 #[cfg(test)]
 mod tests;
 
+pub use laws::text_has_one_first_sentence;
 pub use note::{bug, deprecated};
 pub use summary::synopsis;
