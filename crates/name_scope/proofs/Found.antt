@@ -1,15 +1,15 @@
 -- Look-ups in the tables of a world.
-use Rattle.std.proofs.Common.{◌≡◌, ℕ, List, [], Option, Some, None, map, refl, sym, ap, ◌∙◌}
+use Rattle.std.proofs.Common.{◌≡◌, ℕ, zero, suc, ◌<◌, ◌^◌, List, [], ◌∷◌, Option, Some, None, All, map, length, sym, ap, ◌∙◌, lit<}
 use Rattle.std.specs.Global.{Global}
 use Rattle.std.specs.BTreeMap.{BTreeMap, get_by_text}
 use Rattle.std.specs.List.{AllZip, slice_get}
 use Rattle.std.specs.Option.{option_map_or}
 use Rattle.std.specs.declared.string.String.{String}
-use Rattle.name_scope.specs.declared.packages.Import.{Import}
+use Rattle.std.proofs.lemmas.List.Elements.{All-head, All-tail}
 use Rattle.name_scope.specs.declared.packages.Imports.{Imports}
 use Rattle.name_scope.specs.declared.packages.NamedPackage.{NamedPackage}
 use Rattle.name_scope.specs.declared.tables.PackageTables.{PackageTables}
-use Rattle.name_scope.specs.Scopes.{first_place, files_of, imports_of, local_name, types_of}
+use Rattle.name_scope.specs.Scopes.{first_place, imports_of, local_name, types_of}
 use Rattle.name_scope.specs.Tables.{AreTables, IndexesImports}
 use Rattle.name_scope.proofs.Lists.{AllZip-at, AllZip-past}
 
@@ -30,6 +30,12 @@ imports_past packages k j p at file =
 pub imports_none : (packages : List NamedPackage) (k j : ℕ) → slice_get packages k ≡ None → imports_of packages k j ≡ []
 imports_none packages k j at =
     ap (λ o. option_map_or (λ (f : Imports). f.list) (slice_get (option_map_or (λ (p : NamedPackage). p.files) o []) j) []) at
+
+-- no more types than a package has that is there
+pub few_types_at : (packages : List NamedPackage) (k : ℕ) → All (λ p. length p.types < 2 ^ 32) packages → length (types_of packages k) < 2 ^ 32
+few_types_at [] k few = lit< tt
+few_types_at (p ∷ ps) zero few = All-head (λ (q : NamedPackage). length q.types < 2 ^ 32) p ps few
+few_types_at (p ∷ ps) (suc k) few = few_types_at ps k (All-tail (λ (q : NamedPackage). length q.types < 2 ^ 32) p ps few)
 
 module _ (packages : List NamedPackage) (tables : List PackageTables) (all : AllZip (AreTables packages) packages tables) (k : ℕ) (name : List ℕ) where
   -- a type by its name

@@ -2,10 +2,11 @@
 use Rattle.std.proofs.Common.{◌≡◌, ℕ, ◌+◌, ◌<◌, Bool, true, false, cond, Bor, List, [], ◌∷◌, ◌++◌, Option, Some, None, map, get_or, take, drop, length, refl, sym, ap, subst, ◌∙◌, drop-cons, add-one, add-zero, arith}
 use Prim.Native.Nat.{zero, suc}
 use Rattle.std.specs.List.{AllZip, find, position_from, slice_get}
-use Rattle.std.specs.Option.{unwrap_or}
+use Rattle.std.specs.Option.{IfSome, unwrap_or}
 use Rattle.std.specs.Str.{bytes_eq}
 use Rattle.std.proofs.lemmas.Bool.Decides.{same_from_decides}
 use Rattle.std.proofs.lemmas.Grind.{take_at_read}
+use Rattle.std.proofs.lemmas.Option.{IfSome_then}
 use Rattle.std.proofs.lemmas.Slice.Eq.{bytes_eq-Decides}
 
 pub bytes_eq-sym : (xs ys : List ℕ) → bytes_eq xs ys ≡ bytes_eq ys xs
@@ -45,6 +46,18 @@ find-at test name xs k at =
 pub find-none : {X Y : Type 0} (test : Y → Bool) (name : X → Y) (xs : List X) → position_from test 0 (map name xs) ≡ None → find (λ x. test (name x)) xs ≡ None
 unfolding FoundAt
 find-none test name xs none = subst (FoundAt test name 0 xs) none (found_at test name 0 xs)
+
+-- a first place is one of the list
+place_below : (test : List ℕ → Bool) (n : ℕ) (xs : List (List ℕ)) → IfSome (position_from test n xs) (λ k. k < n + length xs)
+place_below test n [] = tt
+place_below test n (x ∷ xs) =
+    elim (test x) as (λ b. IfSome (cond b (Some n) (position_from test (n + 1) xs)) (λ k. k < n + length (x ∷ xs))) [
+      | true ↦ omega arith
+      | false ↦ IfSome_then (position_from test (n + 1) xs) (place_below test (n + 1) xs) (λ k below. omega (arith, below))
+    ]
+
+pub first_place_below : (name : List ℕ) (names : List (List ℕ)) (most : ℕ) → length names < most → IfSome (position_from (bytes_eq name) 0 names) (λ k. k < most)
+first_place_below name names most few = IfSome_then (position_from (bytes_eq name) 0 names) (place_below (bytes_eq name) 0 names) (λ k below. omega (arith, below, few))
 
 -- lists side by side, with one element more each
 AllZip-more : {A B : Type 0} (R : A → B → Type 0) (xs : List A) (ys : List B) (x : A) (y : B) → AllZip R xs ys → R x y → AllZip R (xs ++ x ∷ []) (ys ++ y ∷ [])

@@ -1,9 +1,8 @@
 -- For the invariant of a `World`: the maps in which names are looked up.
-use Rattle.std.specs.Prelude.{◌≡◌, ℕ, List, map}
+use Rattle.std.specs.Prelude.{◌≡◌, ℕ, ◌<◌, ◌^◌, List, All, length, map}
 use Rattle.std.specs.BTreeMap.{BTreeMap, get_by_text}
 use Rattle.std.specs.List.{AllZip}
 use Rattle.std.specs.declared.string.String.{String}
-use Rattle.name_scope.specs.declared.packages.Import.{Import}
 use Rattle.name_scope.specs.declared.packages.Imports.{Imports}
 use Rattle.name_scope.specs.declared.packages.NamedPackage.{NamedPackage}
 use Rattle.name_scope.specs.declared.tables.PackageTables.{PackageTables}
@@ -22,8 +21,11 @@ pub record AreTables (packages : List NamedPackage) (p : NamedPackage) (tables :
   pub types : IsIndex tables.types p.types
   pub files : AllZip (IndexesImports packages) p.files tables.files.items
 
--- the tables of a world: its packages by their paths, and the tables of each
+-- the tables of a world: its packages by their paths, and the tables of each; the places of
+-- packages and of types are numbers of 32 bits
 pub record IsWorld {A : Type 0} (packages : List NamedPackage) (paths : BTreeMap (String A) ℕ)
     (tables : List PackageTables) : Type 0 where
   pub by_path : IsIndex paths (map (λ p. p.path) packages)
   pub by_package : AllZip (AreTables packages) packages tables
+  pub few : length packages < 2 ^ 32
+  pub few_types : All (λ p. length p.types < 2 ^ 32) packages

@@ -5,12 +5,12 @@ ghost use Rattle.std.specs.Option.{option_copied};
 ghost use Rattle.name_scope.specs.Scopes.{first_place};
 ghost use Rattle.name_scope.specs.Tables.{IsIndex};
 
-use plain_data::{Mem, NoMemory, Txt};
+use plain_data::{Mem, Txt};
 use std::alloc::Global;
 use std::collections::BTreeMap;
 
 /// Names, each with its first place in a list.
-pub(crate) type Index = BTreeMap<String, u32>;
+pub(crate) type Index = BTreeMap<String, usize>;
 
 /// The first places of names in a list.
 pub(crate) fn index_of(alloc: Global, mut names: Vec<String>) -> Mem<Index>
@@ -19,17 +19,10 @@ pub(crate) fn index_of(alloc: Global, mut names: Vec<String>) -> Mem<Index>
     let mut places = BTreeMap::new(alloc);
     // From the last to the first, so that the first place of a name stays.
     while let Some(name) = names.pop() {
-        let place = number_of(names.len())?;
+        let place = names.len();
         places.insert(name, place)?;
     }
     Ok(places)
-}
-
-/// A place as a number of 32 bits; a place beyond them has none.
-fn number_of(place: usize) -> Mem<u32>
-    ensures { IfOk result (λ number. number ≡ place) }
-{
-    u32::try_from(place).map_err(|_| NoMemory)
 }
 
 /// Copies of texts.

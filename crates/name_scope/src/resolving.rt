@@ -60,7 +60,7 @@ fn unqualified(alloc: Global, world: &World, package: u32, name: &str) -> Mem<Ta
 fn path_of(world: &World, package: u32) -> &str
     ensures { result.now ≡ path_of world.now «package» }
 {
-    match package_in(world.packages(), package) {
+    match package_in(world.packages(), package as usize) {
         Some(package) => package.path.as_str(),
         None => "",
     }

@@ -1,6 +1,7 @@
 use crate::{Import, Imports, NamedPackage, Target, World, resolve_name};
 use plain_data::{Seq, Txt};
 use std::alloc::Global;
+use std::process::Abort;
 use std::test::Fail;
 
 /// An import, by its local name and its path.
@@ -31,7 +32,8 @@ fn imports_of(alloc: Global, imports: &[Line]) -> Result<Seq<Imports>, Fail> {
     Ok(files)
 }
 
-fn world_of(alloc: Global, cases: &[Case]) -> Result<World, Fail> {
+fn world_of(rt: &(impl Abort + AllocGlobal), cases: &[Case]) -> Result<World, Fail> {
+    let alloc = rt.alloc();
     let mut packages = Seq::new(alloc);
     for (path, name, types, imports) in cases {
         packages.push(NamedPackage {
@@ -41,6 +43,13 @@ fn world_of(alloc: Global, cases: &[Case]) -> Result<World, Fail> {
             files: imports_of(alloc, imports)?,
         })?;
     }
+    assert!(rt; packages.len() < 100);
+    assert!(rt;
+        packages
+            .as_slice()
+            .iter()
+            .all(|package| package.types.len() < 100)
+    );
     Ok(World::make(alloc, packages)?)
 }
 
@@ -133,7 +142,7 @@ const NAMES: [(&str, &str, &str, &str); 20] = [
 
 #[test]
 fn names_lead_to_their_targets(rt: HostRuntime) -> Result<(), Fail> {
-    let world = world_of(rt.alloc(), &CASES)?;
+    let world = world_of(&rt, &CASES)?;
     for (shows, qualifier, name, line) in NAMES {
         let found = line_of(rt.alloc(), &world, qualifier, name)?;
         assert_eq!(rt; found.as_str(), line, "{shows}");

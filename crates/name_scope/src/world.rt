@@ -1,11 +1,11 @@
 //! The packages among which names are looked up.
 
-ghost use Rattle.std.specs.Prelude.{◌≡◌, IfOk, map};
+ghost use Rattle.std.specs.Prelude.{◌≡◌, ◌<◌, ◌^◌, All, IfOk, length, map};
 ghost use Rattle.name_scope.specs.Scopes.{first_place, imports_of, local_name, types_of};
 
 use crate::index::Index;
 use crate::packages::NamedPackage;
-use crate::places::{index_in, place_in, tables_in};
+use crate::places::{index_in, number_of, place_in, tables_in};
 use crate::tables::{PackageTables, index_paths, make_tables};
 use plain_data::{Mem, Seq};
 use std::alloc::Global;
@@ -35,6 +35,8 @@ impl Model for World {
 impl World {
     /// A world of packages. Where two have one path, the first is found by it.
     pub fn make(alloc: Global, packages: Seq<NamedPackage>) -> Mem<World>
+        requires few { length packages < 2 ^ 32 }
+        requires few_types { All (λ p. length p.types < 2 ^ 32) packages }
         ensures { IfOk result (λ world. world ≡ packages) }
     {
         let packages = packages.into_vec();
@@ -58,7 +60,7 @@ impl World {
     pub(crate) fn package_place(&self, path: &str) -> Option<u32>
         ensures { result ≡ first_place path.now (map (λ p. p.path) self.now) }
     {
-        place_in(&self.paths, path)
+        number_of(place_in(&self.paths, path))
     }
 
     /// The place of the first type of a package with a name.
@@ -66,13 +68,13 @@ impl World {
         ensures { result ≡ first_place name.now (types_of self.now «package») }
     {
         match tables_in(&self.tables, package) {
-            Some(tables) => place_in(&tables.types, name),
+            Some(tables) => number_of(place_in(&tables.types, name)),
             None => None,
         }
     }
 
     /// The place of the first import of a file with a local name.
-    pub(crate) fn import_place(&self, package: u32, file: u32, name: &str) -> Option<u32>
+    pub(crate) fn import_place(&self, package: u32, file: u32, name: &str) -> Option<usize>
         ensures { result ≡ first_place name.now
             (map (local_name self.now) (imports_of self.now «package» file)) }
     {

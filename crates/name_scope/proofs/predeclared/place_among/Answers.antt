@@ -1,4 +1,4 @@
-use Rattle.std.proofs.Common.{List, ℕ, ◌+◌, [], Some, ap, sym, ◌∙◌}
+use Rattle.std.proofs.Common.{◌+◌, [], Some, ap, sym, ◌∙◌}
 use Rattle.name_scope.proofs.Lists.{first_at, next_at}
 use Rattle.name_scope.proofs.predeclared.place_among.Goals as goal
 

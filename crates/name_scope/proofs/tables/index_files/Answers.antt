@@ -1,5 +1,4 @@
-use Rattle.std.proofs.Common.{List, ℕ, subst}
-use Rattle.name_scope.specs.Tables.{IndexesImports, IsIndex}
+use Rattle.name_scope.specs.Tables.{IndexesImports}
 use Rattle.name_scope.proofs.Lists.{AllZip-step}
 use Rattle.name_scope.proofs.tables.index_files.Goals as goal
 

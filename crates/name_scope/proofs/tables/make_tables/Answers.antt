@@ -1,4 +1,3 @@
-use Rattle.std.proofs.Common.{List, ℕ, subst}
 use Rattle.std.specs.List.{AllZip}
 use Rattle.name_scope.specs.Tables.{AreTables, IndexesImports, IsIndex}
 use Rattle.name_scope.proofs.Lists.{AllZip-step}

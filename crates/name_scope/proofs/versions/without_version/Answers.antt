@@ -1,6 +1,6 @@
-use Rattle.std.proofs.Common.{List, ℕ, Option, Some, None, Bool, cond, ap, sym, ◌∙◌, arith}
+use Rattle.std.proofs.Common.{List, ℕ, Option, Bool, cond, ap, sym, ◌∙◌, arith}
 use Rattle.std.specs.Option.{option_map_or}
-use Rattle.name_scope.specs.Scopes.{is_version, without_version}
+use Rattle.name_scope.specs.Scopes.{is_version}
 use Rattle.name_scope.proofs.LastOf.{split_found, split_missed}
 use Rattle.name_scope.proofs.versions.without_version.Goals as goal
 
