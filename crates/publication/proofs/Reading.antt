@@ -18,7 +18,7 @@ use Rattle.publication.proofs.Logs.{prefix_whole, closed_all, prefix_then, prefi
 abbrev Token : Type 0 → Type 0
 Token E = Seen (Option E) ℕ Chronicle
 
--- entries that never fall, and are at most this, go on with more than that
+-- numbers that never fall, and are at most this, go on with more than that
 rises : (entries : List ℕ) (most more : ℕ) → most ≤ more → IsNonDecreasing entries
     → All (λ number. (1 ≤ number) × (number ≤ most)) entries → IsNonDecreasing
     (entries ++ more ∷ [])
@@ -28,6 +28,26 @@ rises entries most more le rising below = IsNonDecreasingBy-push (λ x. x) entri
 all_more : (entries : List ℕ) (most more : ℕ) → most ≤ more → All (λ number. (1 ≤ number)
     × (number ≤ most)) entries → All (λ number. (1 ≤ number) × (number ≤ more)) entries
 all_more entries most more le below i d lt = let b = below i d lt in (b.0, le_trans b.1 le)
+
+-- the numbers of so many editions, which never fall
+record AreNumbers (numbers : List ℕ) (most : ℕ) : Type 0 where
+  rising : IsNonDecreasing numbers
+  within : All (λ number. (1 ≤ number) × (number ≤ most)) numbers
+
+same_numbers : (numbers same : List ℕ) (most more : ℕ) → most ≤ more → same ≡ numbers
+    → AreNumbers numbers most → AreNumbers same more
+same_numbers numbers same most more le is are = subst (λ l. AreNumbers l more) (sym is)
+    (record { rising = are.rising; within = all_more numbers most more le are.within })
+
+one_more : (numbers more : List ℕ) (most number : ℕ) → 1 ≤ number → most ≤ number
+    → more ≡ numbers ++ number ∷ [] → AreNumbers numbers most → AreNumbers more number
+one_more numbers more most number some le is are =
+    let P : ℕ → Type 0 = λ n. (1 ≤ n) × (n ≤ number) in
+    subst (λ l. AreNumbers l number) (sym is) (record {
+      rising = rises numbers most number le are.rising are.within;
+      within = All-append P numbers (number ∷ []) (all_more numbers most number le are.within)
+          (All-cons P number [] (some, le_refl number) (All-nil P));
+    })
 
 module _ {E : Type 0} where
   pub editions_append : (front rest : List (Option E)) → editions_of (front ++ rest) ≡ editions_of
@@ -82,6 +102,9 @@ module _ {E : Type 0} where
         begins = begun seen.log known.origin.log known.all.log r.told.one r.begins origin;
         rising = r.rising;
         known = λ i d lt. let k = r.entered i d lt in
+            (k.0, omega (arith, k.1, editions_length seen.log r.unclosed));
+        looks_rising = r.rising_looks;
+        looks_known = λ i d lt. let k = r.looked i d lt in
             (k.0, omega (arith, k.1, editions_length seen.log r.unclosed));
         within = λ closed. editions_begin seen.log known.told.log
             (within_closed known.told.log known.all.log seen.log (r.told.last closed) r.unclosed
@@ -161,39 +184,45 @@ module _ {E : Type 0} where
   module _ (before after : Sight E) (seen : Token E) (count : ℕ) (known : Knowledge E)
       (all noted : Token E) (number : ℕ) (r : IsReader before seen count known)
       (s : SeesMore before after known.all all) (n : IsNoted after noted number) where
-    stands : IsNonDecreasing after.entries → All (λ entry. (1 ≤ entry)
-        × (entry ≤ length after.seen.log)) after.entries → IsReader after noted number
-        (record known { all = all })
-    stands rising below = record {
-      told = told_more before after known all r.told s;
-      opened = s.opened;
-      book = s.book ∙ r.book;
-      counted = n.counted ∙ ap length (sym n.is);
-      unclosed = subst (λ (l : List (Option E)). IsOpen l) (sym n.is) s.unclosed;
-      begins = subst (λ (l : List (Option E)). IsPrefix l all.log) (sym n.is) s.begins;
-      within = ([], sym n.is ∙ sym (append-nil noted.log));
-      rising = rising;
-      entered = subst (λ (l : List (Option E)). All (λ entry. (1 ≤ entry) × (entry ≤ length l))
-          after.entries) (sym n.is) below;
-    }
+    stands : AreNumbers after.entries (length after.seen.log)
+        → AreNumbers after.looks (length after.seen.log)
+        → IsReader after noted number (record known { all = all })
+    stands entries looks =
+        let P : List ℕ → List (Option E) → Type 0 = λ numbers log.
+        All (λ entry. (1 ≤ entry) × (entry ≤ length log)) numbers in
+        record {
+          told = told_more before after known all r.told s;
+          opened = s.opened;
+          book = s.book ∙ r.book;
+          counted = n.counted ∙ ap length (sym n.is);
+          unclosed = subst (λ (l : List (Option E)). IsOpen l) (sym n.is) s.unclosed;
+          begins = subst (λ (l : List (Option E)). IsPrefix l all.log) (sym n.is) s.begins;
+          within = ([], sym n.is ∙ sym (append-nil noted.log));
+          rising = entries.rising;
+          entered = subst (P after.entries) (sym n.is) entries.within;
+          rising_looks = looks.rising;
+          looked = subst (P after.looks) (sym n.is) looks.within;
+        }
 
-    pub looked : after.entries ≡ before.entries → IsReader after noted number
-        (record known { all = all })
-    looked same = stands (subst IsNonDecreasing (sym same) r.rising)
-        (subst (All (λ entry. (1 ≤ entry) × (entry ≤ length after.seen.log))) (sym same)
-        (all_more before.entries (length seen.log) (length after.seen.log)
-        (longer before after seen count known all r s) r.entered))
-
-    pub entered : Notes before after → IsReader after noted number (record known { all = all })
-    entered notes =
-        let P : ℕ → Type 0 = λ entry. (1 ≤ entry) × (entry ≤ length after.seen.log) in
+    pub looked : after.entries ≡ before.entries → NotesLook before after
+        → IsReader after noted number (record known { all = all })
+    looked same notes =
         let le = longer before after seen count known all r s in
-        stands (subst IsNonDecreasing (sym notes) (rises before.entries (length seen.log)
-        (length after.seen.log) le r.rising r.entered))
-        (subst (All P) (sym notes) (All-append P before.entries (length after.seen.log ∷ [])
-        (all_more before.entries (length seen.log) (length after.seen.log) le r.entered)
-        (All-cons P (length after.seen.log) [] (s.some, le_refl (length after.seen.log))
-        (All-nil P))))
+        stands
+        (same_numbers before.entries after.entries (length seen.log) (length after.seen.log) le same
+        (record { rising = r.rising; within = r.entered }))
+        (one_more before.looks after.looks (length seen.log) (length after.seen.log) s.some le notes
+        (record { rising = r.rising_looks; within = r.looked }))
+
+    pub entered : Notes before after → after.looks ≡ before.looks
+        → IsReader after noted number (record known { all = all })
+    entered notes same =
+        let le = longer before after seen count known all r s in
+        stands
+        (one_more before.entries after.entries (length seen.log) (length after.seen.log) s.some le
+        notes (record { rising = r.rising; within = r.entered }))
+        (same_numbers before.looks after.looks (length seen.log) (length after.seen.log) le same
+        (record { rising = r.rising_looks; within = r.looked }))
 
     -- what was told is seen, and nothing else where it is closed
     pub informed : known.number ≤ length after.seen.log → StartsWith (editions_of noted.log)
@@ -238,9 +267,10 @@ module _ {E : Type 0} where
   -- the reader keeps what it has seen, whatever the sight saw
   pub stayed : (before after : Sight E) (seen : Token E) (count : ℕ) (known : Knowledge E)
       (all : Token E) → IsReader before seen count known → after.entries ≡ before.entries
+      → after.looks ≡ before.looks
       → SeesNothing before after known.all all ⊎ SeesMore before after known.all all
       → IsReader after seen count (record known { all = all })
-  stayed before after seen count known all r same step = ⊎_elim
+  stayed before after seen count known all r same same_looks step = ⊎_elim
       (λ (t : SeesNothing before after known.all all). subst (λ (sight : Sight E). IsReader sight
       seen count (record known { all = all })) (sym t.0)
       (subst (λ (token : Token E). IsReader before seen count (record known { all = token }))
@@ -256,6 +286,9 @@ module _ {E : Type 0} where
         rising = subst IsNonDecreasing (sym same) r.rising;
         entered = subst (All (λ number. (1 ≤ number) × (number ≤ length seen.log)))
             (sym same) r.entered;
+        rising_looks = subst IsNonDecreasing (sym same_looks) r.rising_looks;
+        looked = subst (All (λ number. (1 ≤ number) × (number ≤ length seen.log)))
+            (sym same_looks) r.looked;
       }) step
 
 -- what holds of an answer, by what it is

@@ -55,6 +55,8 @@ module _ {E : Type 0} where
     pub within : StartsWith sight.seen.log seen.log
     pub rising : IsNonDecreasing sight.entries
     pub entered : All (λ number. (1 ≤ number) × (number ≤ length seen.log)) sight.entries
+    pub rising_looks : IsNonDecreasing sight.looks
+    pub looked : All (λ number. (1 ≤ number) × (number ≤ length seen.log)) sight.looks
 
   -- a step by which a reader sees more, and so knows more
   pub record SeesMore {P : Type 0} (before after : Sight E) (known all : Seen (Option E) ℕ P) :

@@ -67,6 +67,9 @@ pub record IsView {E : Type 0} (view : View E) : Type 0 where
   -- the entries never fall, and each is the number of an edition that was seen
   pub rising : IsNonDecreasing view.entries
   pub known : All (λ number. (1 ≤ number) × (number ≤ length view.seen)) view.entries
+  -- nor do the looks, and each is the number of an edition that was seen
+  pub looks_rising : IsNonDecreasing view.looks
+  pub looks_known : All (λ number. (1 ≤ number) × (number ≤ length view.seen)) view.looks
   -- nothing is seen beyond a closed history
   pub within : IsTrue view.closed → StartsWith view.told view.seen
 

@@ -342,8 +342,9 @@ impl<E: Drop> EditionReader<E> {
     ///
     /// # Errors
     ///
-    /// `NoMemory` where the entry is refused, or a further owner of the edition. The view is then
-    /// as it was, or has gained that one entry, of the newest edition.
+    /// `NoMemory` where the entry is refused, where the edition can't have a further owner, or where
+    /// what is published is below what was told. The view is then as it was, or, where an owner
+    /// was wanting, has gained that one entry, of the newest edition.
     pub fn enter(&mut self) -> Mem<Entered<E>>
         // What the entry gives.
         ensures number { IfOk result (λ entered. entered.number ≡ length self.new.seen) }
@@ -380,7 +381,8 @@ impl<E: Drop> EditionReader<E> {
     ///
     /// # Errors
     ///
-    /// `NoMemory` where the step is refused. The view is then as it was.
+    /// `NoMemory` where the step is refused, or where what is published is below what was told. The
+    /// view is then as it was.
     pub fn look(&mut self) -> Mem<()>
         ensures look { OnOk result (GainsLook self.old self.new) }
         ensures informed { OnOk result (StartsWith self.new.seen self.old.told) }

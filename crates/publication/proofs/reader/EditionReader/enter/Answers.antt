@@ -17,7 +17,7 @@ invariant_of-self g c =
     let step = err_of c.enter_informed-all.result.1 _ _ c.in_err-noted.was
     c.enter_informed-all.ensures.err in
     stayed before after c.self.inside.seen c.self.inside.count c.self.inside.knowledge all
-    c.self.invariant step.entries
+    c.self.invariant step.entries step.looks
     (subst (λ token. SeesNothing before after token all ⊎ SeesMore before after token all)
     c.again-known.ensures step.sees)
 
@@ -39,7 +39,7 @@ invariant_of-self-2 g c =
     let more = subst (λ token. SeesMore before after token all) c.again-known.ensures s.0 in
     entered before after c.self.inside.seen c.self.inside.count c.self.inside.knowledge all
     c.in_ok-noted.noted.sighting.seen c.in_ok-noted.noted.sighting.count c.self.invariant more
-    noted s.1
+    noted s.1 c.enter_informed-all.ensures.looks
 
 pub returns-clause-number : goal.returns-clause-number
 returns-clause-number g c =

@@ -32,4 +32,6 @@ returns-clause-view g c =
       within = is.within;
       rising = is.rising;
       entered = is.entered;
+      rising_looks = is.rising_looks;
+      looked = is.looked;
     })

@@ -15,7 +15,7 @@ invariant_of-self g c =
     let step = err_of c.look_informed-all.result.1 _ _ c.in_err-sighting.was
     c.look_informed-all.ensures.err in
     stayed before after c.self.inside.seen c.self.inside.count c.self.inside.knowledge all
-    c.self.invariant step.entries
+    c.self.invariant step.entries step.looks
     (subst (λ token. SeesNothing before after token all ⊎ SeesMore before after token all)
     c.again-known.ensures step.sees)
 
@@ -35,7 +35,7 @@ invariant_of-self-2 g c =
     let more = subst (λ token. SeesMore before after token all) c.again-known.ensures s.0 in
     looked before after c.self.inside.seen c.self.inside.count c.self.inside.knowledge all
     c.in_ok-sighting.sighting.seen c.in_ok-sighting.sighting.count c.self.invariant more noted
-    c.look_informed-all.ensures.entries
+    c.look_informed-all.ensures.entries s.1
 
 pub returns-clause-look : goal.returns-clause-look
 returns-clause-look g c =
