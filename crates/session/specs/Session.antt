@@ -73,5 +73,6 @@ pub record ServesLink {E : Type 0} (reply : Replier E)
   pub opening : new.opening ≡ old.opening
   pub later : StartsWith new.seen old.seen
   pub told : new.told ≡ old.told
+  pub looks : new.looks ≡ old.looks
   pub closed : new.closed ≡ old.closed
   pub view : IsView new

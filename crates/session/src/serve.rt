@@ -75,6 +75,7 @@ fn answer_requests<L: Link, E: Drop, R: Responder<E>>(
     ensures opening { reader.new.opening ≡ reader.old.opening }
     ensures later { StartsWith reader.new.seen reader.old.seen }
     ensures told { reader.new.told ≡ reader.old.told }
+    ensures looks { reader.new.looks ≡ reader.old.looks }
     ensures closed { reader.new.closed ≡ reader.old.closed }
     ensures view { IsView reader.new }
 {

@@ -108,6 +108,7 @@ loop-answered-init g c = record {
   opening = search rules;
   later = search rules;
   told = search rules;
+  looks = search rules;
   closed = search rules;
   view = search rules;
 }
@@ -134,6 +135,7 @@ loop-answered-preserved g c =
       opening = search rules;
       later = StartsWith-then _ _ _ c.loop-answered.invariant.later c.in_ok-entered.ensures.later;
       told = search rules;
+      looks = search rules;
       closed = search rules;
       view = c.in_ok-entered.ensures.view;
     }

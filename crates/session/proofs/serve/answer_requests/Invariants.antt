@@ -18,6 +18,7 @@ invariant-loop-answered g l = record {
   opening : l.reader.opening ≡ l.initial.reader.opening;
   later : StartsWith l.reader.seen l.initial.reader.seen;
   told : l.reader.told ≡ l.initial.reader.told;
+  looks : l.reader.looks ≡ l.initial.reader.looks;
   closed : l.reader.closed ≡ l.initial.reader.closed;
   view : IsView l.reader;
 }
