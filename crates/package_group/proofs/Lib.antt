@@ -1,3 +1,5 @@
+mod ByFolder
+mod FolderPaths
 mod Lists
 mod Lookups
 mod Members

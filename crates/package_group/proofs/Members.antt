@@ -5,8 +5,8 @@ use Rattle.std.specs.List.{find, slice_get}
 use Rattle.std.specs.Option.{option_copied, option_map, option_map_or}
 use Rattle.std.proofs.lemmas.List.{drop_all}
 use Rattle.package_group.specs.declared.facts.FileFact.{FileFact}
-use Rattle.package_group.specs.Groups.{Member, files_of, folder_of, has_name, name_of, package_of, places, without_test}
-use Rattle.package_group.specs.Steps.{Lent, seen}
+use Rattle.package_group.specs.Groups.{Member, files_of, folder_of, has_name, name_of, places, without_test}
+use Rattle.package_group.specs.Steps.{Lent, package_of, seen}
 use Rattle.package_group.proofs.Lists.{filter-map, find-drop, map-map}
 
 abbrev pub lent_files : List Lent → List FileFact

@@ -1,91 +1,104 @@
--- Lists that rise are told apart by what they have.
-use Rattle.std.proofs.Common.{◌≡◌, ℕ, Bool, true, false, List, [], ◌∷◌, map, All, refl, sym, ap, ◌∙◌, true≢false}
-use Rattle.std.specs.Prelude.{◌||◌}
-use Rattle.std.specs.Cmp.{IsTotalOrder}
+-- Packages whose paths rise are told apart by which there are.
+use Rattle.std.proofs.Common.{◌≡◌, ℕ, zero, suc, ◌<◌, ◌⊎◌, inl, inr, ⊎_elim, List, [], ◌∷◌, map, get_or, length, refl, sym, ap, subst, ◌∙◌, true≢false, arith}
+use Rattle.std.specs.Prelude.{⊤}
 use Rattle.std.specs.Cmp.Lexicographic.{nat_list_cmp_total, slice_cmp}
-use Rattle.std.specs.List.{AllByRecursion, list_any}
+use Rattle.std.specs.List.{AllByRecursion}
 use Rattle.std.specs.List.Sorted.{IsStrictlySortedBy}
-use Rattle.std.specs.Ordering.{is_eq, nat_cmp, ordering_reverse}
+use Rattle.std.specs.Ordering.{is_eq, nat_cmp}
 use Rattle.std.specs.Str.{bytes_eq}
-use Rattle.std.specs.declared.cmp.Ordering.TheVariants.{Less, Equal, Greater}
-use Rattle.std.proofs.lemmas.Bool.{or_left}
-use Rattle.std.proofs.lemmas.List.Elements.{All-head, All-tail}
-use Rattle.std.proofs.lemmas.Map.Lookups.{exact_bytes}
+use Rattle.std.specs.declared.cmp.Ordering.TheVariants.{Less}
+use Rattle.std.proofs.lemmas.List.Folds.{Any-from_list_any, list_any_at}
 use Rattle.std.proofs.lemmas.Map.Text.{is_eq-slice_cmp}
 use Rattle.std.proofs.lemmas.Slice.Eq.{bytes_eq-Decides}
 use Rattle.tree_io.specs.Path.{IsRising}
 use Rattle.package_group.specs.declared.facts.FileFact.{FileFact}
 use Rattle.package_group.specs.declared.facts.Grouped.{Grouped}
 use Rattle.package_group.specs.declared.facts.Package.{Package}
-use Rattle.package_group.specs.Groups.{IsGrouping, members_at, package_of}
-use Rattle.package_group.proofs.Lists.{bytes_eq-same, list_any-map}
+use Rattle.package_group.specs.Groups.{IsGrouping, package_in}
+use Rattle.package_group.proofs.Lists.{bytes_eq-same}
 
-abbrev has : List ℕ → List (List ℕ) → Bool
-has q xs = list_any (bytes_eq q) xs
+abbrev paths_of : List Package → List (List ℕ)
+paths_of packages = map (λ (p : Package). p.path) packages
 
-neither : (a b : Bool) → a ≡ false → b ≡ false → (a || b) ≡ false
-neither a b first second = ap (λ c. c || b) first ∙ second
+abbrev IsIn : Package → List Package → Type 0
+IsIn p [] = ⊥
+IsIn p (q ∷ qs) = (p ≡ q) ⊎ IsIn p qs
 
-below_all : (x : List ℕ) (ys : List (List ℕ)) → AllByRecursion (λ y. slice_cmp nat_cmp x y ≡ Less) ys → has x ys ≡ false
-below_all x [] below = refl
-below_all x (y ∷ ys) below = neither _ _ (sym (is_eq-slice_cmp x y) ∙ ap is_eq below.0) (below_all x ys below.1)
+abbrev AreIn : List Package → List Package → Type 0
+AreIn [] qs = ⊤
+AreIn (p ∷ ps) qs = IsIn p qs × AreIn ps qs
 
-below_first : (x y : List ℕ) (ys : List (List ℕ)) → slice_cmp nat_cmp x y ≡ Less → AllByRecursion (λ z. slice_cmp nat_cmp y z ≡ Less) ys → AllByRecursion (λ z. slice_cmp nat_cmp x z ≡ Less) ys
-below_first x y [] less all = tt
-below_first x y (z ∷ zs) less all = (nat_list_cmp_total.trans x y z less all.0, below_first x y zs less all.1)
+is_in_at : (packages : List Package) (k : ℕ) (d : Package) → k < length packages → IsIn (get_or packages k d) packages
+is_in_at [] k d below = absurd (omega arith)
+is_in_at (p ∷ ps) zero d below = inl refl
+is_in_at (p ∷ ps) (suc k) d below = inr (is_in_at ps k d (omega arith))
 
-has_first : (x : List ℕ) (xs : List (List ℕ)) → has x (x ∷ xs) ≡ true
-has_first x xs = or_left _ _ (bytes_eq-same x)
+are_in_from : (ps qs : List Package) → ((k : ℕ) (d : Package) → k < length ps → IsIn (get_or ps k d) qs) → AreIn ps qs
+are_in_from [] qs all = tt
+are_in_from (p ∷ ps) qs all = (all 0 p (omega arith), are_in_from ps qs (λ k d below. all (suc k) d (omega arith)))
 
--- the first of one list is not below the first of the other
-not_less : (x y : List ℕ) (xs ys : List (List ℕ)) → AllByRecursion (λ z. slice_cmp nat_cmp y z ≡ Less) ys → ((q : List ℕ) → has q (x ∷ xs) ≡ has q (y ∷ ys)) → slice_cmp nat_cmp x y ≡ Less → ⊥
-not_less x y xs ys above same less =
-    true≢false (sym (has_first x xs) ∙ same x ∙ below_all x (y ∷ ys) (less, below_first x y ys less above))
+never_less : (path : List ℕ) → slice_cmp nat_cmp path path ≡ Less → ⊥
+never_less path less = true≢false (sym (is_eq-slice_cmp path path ∙ bytes_eq-same path) ∙ ap is_eq less)
 
-behind : (b m n : Bool) → (b || m) ≡ (b || n) → (b ≡ true → m ≡ n) → m ≡ n
-behind true m n same equal = equal refl
-behind false m n same equal = same
+not_both : (a b : List ℕ) → slice_cmp nat_cmp a b ≡ Less → slice_cmp nat_cmp b a ≡ Less → ⊥
+not_both a b less back = never_less a (nat_list_cmp_total.trans a b a less back)
 
--- what stands behind equal firsts
-same_rest : (x y : List ℕ) (xs ys : List (List ℕ)) → AllByRecursion (λ z. slice_cmp nat_cmp x z ≡ Less) xs → AllByRecursion (λ z. slice_cmp nat_cmp y z ≡ Less) ys → x ≡ y
-    → ((q : List ℕ) → has q (x ∷ xs) ≡ has q (y ∷ ys)) → (q : List ℕ) → has q xs ≡ has q ys
-same_rest x y xs ys above beside firsts same q =
-    behind (bytes_eq q x) (has q xs) (has q ys) (same q ∙ ap (λ z. bytes_eq q z || has q ys) (sym firsts))
-    (λ e.
-    let at : q ≡ x = (bytes_eq-Decides q x).0 e in
-    ap (λ z. has z xs) at ∙ below_all x xs above ∙ sym (ap (λ z. has z ys) (at ∙ firsts) ∙ below_all y ys beside))
+above : (path : List ℕ) (p : Package) (ps : List Package) → AllByRecursion (λ q. slice_cmp nat_cmp path q ≡ Less) (paths_of ps) → IsIn p ps → slice_cmp nat_cmp path p.path ≡ Less
+above path p [] all inside = absurd inside
+above path p (q ∷ qs) all inside = ⊎_elim
+    (λ (here : p ≡ q). subst (λ (r : Package). slice_cmp nat_cmp path r.path ≡ Less) (sym here) all.0)
+    (λ (later : IsIn p qs). above path p qs all.1 later)
+    inside
 
-pub rising_same : (xs ys : List (List ℕ)) → IsRising xs → IsRising ys → ((q : List ℕ) → has q xs ≡ has q ys) → xs ≡ ys
+-- the first of one list is the first of the other
+same_first : (p q : Package) (ps qs : List Package) → AllByRecursion (λ r. slice_cmp nat_cmp p.path r ≡ Less) (paths_of ps) → AllByRecursion (λ r. slice_cmp nat_cmp q.path r ≡ Less) (paths_of qs)
+    → IsIn p (q ∷ qs) → IsIn q (p ∷ ps) → p ≡ q
+same_first p q ps qs one other inside back = ⊎_elim
+    (λ (here : p ≡ q). here)
+    (λ (later : IsIn p qs). ⊎_elim
+    (λ (here : q ≡ p). sym here)
+    (λ (behind : IsIn q ps). absurd (not_both q.path p.path (above q.path p qs other later) (above p.path q ps one behind)))
+    back)
+    inside
+
+-- what is in a list, and isn't its first
+behind_first : (first p : Package) (qs : List Package) → slice_cmp nat_cmp first.path p.path ≡ Less → IsIn p (first ∷ qs) → IsIn p qs
+behind_first first p qs less inside = ⊎_elim
+    (λ (here : p ≡ first). absurd (never_less first.path (subst (λ (r : Package). slice_cmp nat_cmp first.path r.path ≡ Less) here less)))
+    (λ (later : IsIn p qs). later)
+    inside
+
+rest_in : (first : Package) (ps qs : List Package) → AllByRecursion (λ r. slice_cmp nat_cmp first.path r ≡ Less) (paths_of ps) → AreIn ps (first ∷ qs) → AreIn ps qs
+rest_in first [] qs all inside = tt
+rest_in first (p ∷ ps) qs all inside = (behind_first first p qs all.0 inside.0, rest_in first ps qs all.1 inside.1)
+
+rising_same : (ps qs : List Package) → IsRising (paths_of ps) → IsRising (paths_of qs) → AreIn ps qs → AreIn qs ps → ps ≡ qs
 unfolding IsStrictlySortedBy
-rising_same [] [] a b same = refl
-rising_same [] (y ∷ ys) a b same = absurd (true≢false (sym (has_first y ys) ∙ sym (same y)))
-rising_same (x ∷ xs) [] a b same = absurd (true≢false (sym (has_first x xs) ∙ same x))
-rising_same (x ∷ xs) (y ∷ ys) a b same =
-    elim (slice_cmp nat_cmp x y) as (λ o. slice_cmp nat_cmp x y ≡ o → x ∷ xs ≡ y ∷ ys) [
-      | Less ↦ λ less. absurd (not_less x y xs ys b.0 same less)
-      | Equal ↦ λ e.
-          let firsts = exact_bytes x y e in
-          let rest = rising_same xs ys a.1 b.1 (same_rest x y xs ys a.0 b.0 firsts same) in
-          λ i. firsts i ∷ rest i
-      | Greater ↦ λ greater. absurd (not_less y x ys xs a.0 (λ q. sym (same q)) (nat_list_cmp_total.antisymm y x ∙ ap ordering_reverse greater))
-    ] refl
-
--- packages that are each what their path gives
-all_made : (F : List ℕ → Package) (ps : List Package) → All (λ p. p ≡ F p.path) ps → ps ≡ map F (map (λ p. p.path) ps)
-all_made F [] all = refl
-all_made F (p ∷ ps) all =
-    let first = All-head (λ (p : Package). p ≡ F p.path) p ps all in
-    let rest = all_made F ps (All-tail (λ (p : Package). p ≡ F p.path) p ps all) in
+rising_same [] [] a b one other = refl
+rising_same [] (q ∷ qs) a b one other = absurd other.0
+rising_same (p ∷ ps) [] a b one other = absurd one.0
+rising_same (p ∷ ps) (q ∷ qs) a b one other =
+    let first : p ≡ q = same_first p q ps qs a.0 b.0 one.0 other.0 in
+    let front = subst (λ (r : Package). AreIn ps (r ∷ qs)) (sym first) one.1 in
+    let back = subst (λ (r : Package). AreIn qs (r ∷ ps)) first other.1 in
+    let rest = rising_same ps qs a.1 b.1 (rest_in p ps qs a.0 front) (rest_in q qs ps b.0 back) in
     λ i. first i ∷ rest i
+
+-- the packages of one grouping are those of another
+all_in : (prefix : List ℕ) (files : List FileFact) (one other : Grouped) → IsGrouping prefix files one → IsGrouping prefix files other → AreIn one.packages other.packages
+all_in prefix files one other a b = are_in_from one.packages other.packages (λ k d below.
+    let p = get_or one.packages k d in
+    let here = list_any_at (λ (q : Package). bytes_eq p.dir q.dir) one.packages k d below (bytes_eq-same p.dir) in
+    let some = Any-from_list_any (λ (q : Package). bytes_eq p.dir q.dir) other.packages (b.folders p.dir ∙ sym (a.folders p.dir) ∙ here) in
+    let q = some.1 in
+    let is : q ≡ package_in prefix files q.dir = subst (λ (r : Package). r ≡ package_in prefix files r.dir) some.3 (b.packages some.0 q some.2) in
+    let dir : p.dir ≡ q.dir = (bytes_eq-Decides p.dir q.dir).0 some.4 in
+    let same : p ≡ q = a.packages k d below ∙ ap (package_in prefix files) dir ∙ sym is in
+    subst (λ (r : Package). IsIn r other.packages) (some.3 ∙ sym same) (is_in_at other.packages some.0 q some.2))
 
 -- two groupings of the same files are equal
 pub same_grouping : (prefix : List ℕ) (files : List FileFact) (one other : Grouped) → IsGrouping prefix files one → IsGrouping prefix files other → one ≡ other
 same_grouping prefix files one other a b =
-    let F : List ℕ → Package = λ path. package_of path (members_at prefix files path) in
-    let paths : map (λ (p : Package). p.path) one.packages ≡ map (λ (p : Package). p.path) other.packages =
-    rising_same _ _ a.rising b.rising (λ q.
-    list_any-map (λ (p : Package). p.path) (bytes_eq q) one.packages ∙ a.paths q
-    ∙ sym (b.paths q) ∙ sym (list_any-map (λ (p : Package). p.path) (bytes_eq q) other.packages)) in
-    let packages = all_made F one.packages a.packages ∙ ap (map F) paths ∙ sym (all_made F other.packages b.packages) in
+    let packages = rising_same one.packages other.packages a.rising b.rising (all_in prefix files one other a b) (all_in prefix files other one b a) in
     let others = a.others ∙ sym b.others in
     λ i. record { packages = packages i; others = others i }

@@ -17,8 +17,8 @@ use Rattle.std.proofs.lemmas.Option.{slice_get-get_or}
 use Rattle.tree_io.specs.Path.{IsRising}
 use Rattle.package_group.specs.declared.facts.FileFact.{FileFact}
 use Rattle.package_group.specs.declared.facts.Package.{Package}
-use Rattle.package_group.specs.Groups.{IsGrouping, Member, files_of, is_own, members_at, name_of, package_of, path_of, places}
-use Rattle.package_group.specs.Steps.{ArePlaced, Lent, Placed, is_beside, placed_by, placed_of, seen}
+use Rattle.package_group.specs.Groups.{Member, files_of, name_of, places}
+use Rattle.package_group.specs.Steps.{ArePlaced, IsByPath, Lent, Placed, is_beside, is_own_at, members_at, package_of, path_of, placed_by, placed_of, seen}
 use Rattle.package_group.proofs.Lists.{All-enumerate_from, bytes_eq-same, filter-map, filter_same, is_some-lookup, list_any-contains, list_any-map, map-enumerate_from, map-map, map-same}
 
 -- a test of placed files, told by the files with their paths
@@ -126,10 +126,10 @@ module _ (prefix : List ℕ) (files : List FileFact) (packages : List Package)
   pub others-found : (b : List ℕ → Option (List ℕ))
       → ((path : List ℕ) → is_some (b path) ≡ list_any (λ p. bytes_eq path p.path) packages)
       → ((path : List ℕ) → IfSome (b path) (λ name. Contains {X = List ℕ × List ℕ} (map (λ (p : Package). (p.path, p.name)) packages) (path, name)))
-      → filter (λ (m : Member). is_beside (b (path_of prefix m.1)) m.1) (enumerate_from 0 files) ≡ filter (λ m. not (is_own prefix files m.1)) (enumerate_from 0 files)
-  others-found b known has = filter_same (λ (m : Member). is_beside (b (path_of prefix m.1)) m.1) (λ m. not (is_own prefix files m.1)) (enumerate_from 0 files)
-      (All-enumerate_from (λ file. is_beside (b (path_of prefix file)) file ≡ not (is_own prefix files file)) 0 files
-      (All-weaker (Contains files) (λ file. is_beside (b (path_of prefix file)) file ≡ not (is_own prefix files file))
+      → filter (λ (m : Member). is_beside (b (path_of prefix m.1)) m.1) (enumerate_from 0 files) ≡ filter (λ m. not (is_own_at prefix files m.1)) (enumerate_from 0 files)
+  others-found b known has = filter_same (λ (m : Member). is_beside (b (path_of prefix m.1)) m.1) (λ m. not (is_own_at prefix files m.1)) (enumerate_from 0 files)
+      (All-enumerate_from (λ file. is_beside (b (path_of prefix file)) file ≡ not (is_own_at prefix files file)) 0 files
+      (All-weaker (Contains files) (λ file. is_beside (b (path_of prefix file)) file ≡ not (is_own_at prefix files file))
       (λ file inside. ap (λ name. is_beside name file) (name_found (b (path_of prefix file)) (path_of prefix file) (known _) (has _) (list_any-contains (λ f. bytes_eq (path_of prefix file) (path_of prefix f)) files file inside (bytes_eq-same (path_of prefix file)))))
       files (All-contains_itself files)))
 
@@ -142,7 +142,7 @@ IfSome-map f Q None h = tt
 IfSome-map f Q (Some x) h = h
 
 -- what the maps say together
-pub is_grouping : {A B C D E : Type 0} (prefix : List ℕ) (files : List FileFact) (placed : List (String A × Lent)) (folders : BTreeMap (String B) (Vec Lent C)) (names : BTreeMap (String D) (String E)) (packages : List Package) (others : List ℕ)
+pub is_by_path : {A B C D E : Type 0} (prefix : List ℕ) (files : List FileFact) (placed : List (String A × Lent)) (folders : BTreeMap (String B) (Vec Lent C)) (names : BTreeMap (String D) (String E)) (packages : List Package) (others : List ℕ)
     → ArePlaced prefix files placed
     → ((path : List ℕ) → option_map_or (λ (g : Vec Lent C). g.items) (get_by_text folders path) [] ≡ map (λ p. p.1) (filter (λ p. bytes_eq path (string_bytes p.0)) placed))
     → ((path : List ℕ) → is_some (get_by_text folders path) ≡ list_any (λ p. bytes_eq path (string_bytes p.0)) placed)
@@ -151,8 +151,8 @@ pub is_grouping : {A B C D E : Type 0} (prefix : List ℕ) (files : List FileFac
     → ((path : List ℕ) → is_some (get_by_text names path) ≡ list_any (λ p. bytes_eq path p.path) packages)
     → ((path : List ℕ) → IfSome (get_by_text names path) (λ name. Contains {X = List ℕ × List ℕ} (map (λ (p : Package). (p.path, p.name)) packages) (path, string_bytes name)))
     → others ≡ map (λ p. p.1.0) (filter (λ p. is_beside (option_map string_bytes (get_by_text names (string_bytes p.0))) p.1.1.now) placed)
-    → IsGrouping prefix files (record { packages = packages; others = others })
-is_grouping {A} {B} {C} {D} {E} prefix files placed folders names packages others are members paths ordered made_is known has others_is =
+    → IsByPath prefix files (record { packages = packages; others = others })
+is_by_path {A} {B} {C} {D} {E} prefix files placed folders names packages others are members paths ordered made_is known has others_is =
     let members' = λ (path : List ℕ). ap (map seen) (members path) ∙ members-placed prefix files placed are path in
     let paths' = λ (path : List ℕ). paths path ∙ paths-placed prefix files placed are path in
     let at = subst (All (λ (p : Package). p ≡ package_of p.path (members_at prefix files p.path))) (sym made_is) (packages-made prefix files folders ordered members' paths') in

@@ -46,10 +46,6 @@ abbrev pub has_name : List ℕ → FileFact → Bool
 has_name name file =
     bytes_eq file.name name || (file.test && bytes_eq file.name (name ++ codes "_test"))
 
--- the path of the package in the folder of a file
-abbrev pub path_of : List ℕ → FileFact → List ℕ
-path_of prefix file = import_path prefix (folder_of file.path)
-
 -- a file with its place in the list of all
 abbrev pub Member : Type 0
 Member = ℕ × FileFact
@@ -62,35 +58,34 @@ places members = map (λ member. member.0) members
 abbrev pub files_of : List Member → List FileFact
 files_of members = map (λ member. member.1) members
 
--- the package with this path that files of one folder make up: those that have its name
-abbrev pub package_of : List ℕ → List Member → Package
-package_of path members =
+-- the files of a folder, each with its place in the list of all
+abbrev pub members_in : List FileFact → List ℕ → List Member
+members_in files folder =
+    filter (λ member. bytes_eq folder (folder_of member.1.path)) (enumerate_from 0 files)
+
+-- the package in a folder: the files of the folder that have its name
+abbrev pub package_in : List ℕ → List FileFact → List ℕ → Package
+package_in prefix files folder =
+    let members = members_in files folder in
     let name = name_of (files_of members) in
     record {
-      path = path;
-      dir = option_map_or (λ member. folder_of member.1.path) (slice_get members 0) [];
+      path = import_path prefix folder;
+      dir = folder;
       name = name;
       files = places (filter (λ member. has_name name member.1 && not member.1.test) members);
       tests = places (filter (λ member. has_name name member.1 && member.1.test) members);
     }
 
--- the files whose package has a path, each with its place
-abbrev pub members_at : List ℕ → List FileFact → List ℕ → List Member
-members_at prefix files path =
-    filter (λ member. bytes_eq path (path_of prefix member.1)) (enumerate_from 0 files)
-
 -- a file that has the name of the package in its folder
-abbrev pub is_own : List ℕ → List FileFact → FileFact → Bool
-is_own prefix files file =
-    has_name (name_of (files_of (members_at prefix files (path_of prefix file)))) file
+abbrev pub is_own : List FileFact → FileFact → Bool
+is_own files file = has_name (name_of (files_of (members_in files (folder_of file.path)))) file
 
--- the files make up these packages: one for each path that the folder of a file has, rising by the
--- paths' bytes; the others are the files beside a package of another name
+-- the files make up these packages: one in each folder of a file, rising by the bytes of their
+-- paths; the others are the files beside a package of another name
 pub record IsGrouping (prefix : List ℕ) (files : List FileFact) (grouped : Grouped) : Type 0 where
-  pub packages : All (λ p. p
-      ≡ package_of p.path (members_at prefix files p.path)) grouped.packages
-  pub paths : (path : List ℕ) → list_any (λ p. bytes_eq path p.path) grouped.packages
-      ≡ list_any (λ file. bytes_eq path (path_of prefix file)) files
+  pub packages : All (λ p. p ≡ package_in prefix files p.dir) grouped.packages
+  pub folders : (folder : List ℕ) → list_any (λ p. bytes_eq folder p.dir) grouped.packages
+      ≡ list_any (λ file. bytes_eq folder (folder_of file.path)) files
   pub rising : IsRising (map (λ p. p.path) grouped.packages)
   pub others : grouped.others
-      ≡ places (filter (λ member. not (is_own prefix files member.1)) (enumerate_from 0 files))
+      ≡ places (filter (λ member. not (is_own files member.1)) (enumerate_from 0 files))

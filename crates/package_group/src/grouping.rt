@@ -1,13 +1,14 @@
 //! Grouping files by their folders.
 
-ghost use Rattle.std.specs.Prelude.{◌≡◌, ◌<◌, ◌^◌, length, ◌&&◌, not, Contains, IfOk, IfSome, OnOk, List, ℕ, [], filter, map, string_bytes, is_some};
+ghost use Rattle.std.specs.Prelude.{◌≡◌, ◌<◌, ◌^◌, length, ◌&&◌, not, All, Contains, IfOk, IfSome, OnOk, List, ℕ, [], filter, map, string_bytes, is_some};
 ghost use Rattle.std.specs.BTreeMap.{IsOrdered, get_by_text};
 ghost use Rattle.std.specs.List.{list_any, slice_get};
 ghost use Rattle.std.specs.Option.{option_copied, option_map, option_map_or};
 ghost use Rattle.std.specs.Str.{bytes_eq};
 ghost use Rattle.std.specs.String.{string_cmp};
-ghost use Rattle.package_group.specs.Groups.{IsGrouping, folder_of, has_name, package_of};
-ghost use Rattle.package_group.specs.Steps.{ArePlaced, is_beside, placed_by, placed_of, seen};
+ghost use Rattle.tree_io.specs.Path.{Belongs};
+ghost use Rattle.package_group.specs.Groups.{IsGrouping, folder_of, has_name};
+ghost use Rattle.package_group.specs.Steps.{ArePlaced, is_beside, package_of, placed_by, placed_of, seen};
 
 use crate::facts::{FileFact, Grouped, Package};
 use crate::folders::{folder_of, import_path};
@@ -20,6 +21,7 @@ use std::collections::BTreeMap;
 /// package in its folder is one of the others.
 pub fn group(alloc: Global, files: &[FileFact], prefix: &str) -> Mem<Grouped>
     requires few { length files.now < 2 ^ 32 }
+    requires belong { All (λ file. Belongs file.path) files.now }
     ensures { IfOk result (IsGrouping prefix.now files.now) }
 {
     let placed = place_files(alloc, files, prefix)?;

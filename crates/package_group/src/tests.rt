@@ -2,6 +2,7 @@ use crate::{FileFact, Grouped, group};
 use plain_data::Txt;
 use std::process::Abort;
 use std::test::Fail;
+use tree_io::belongs;
 
 /// A file with its path, its name and whether it is a test file.
 type Case<'a> = (&'a str, &'a str, bool);
@@ -12,6 +13,7 @@ fn lines_of(rt: &(impl Abort + AllocGlobal), files: &[Case], prefix: &str) -> Re
     let alloc = rt.alloc();
     let mut facts = Vec::new(alloc);
     for (path, name, test) in files {
+        assert!(rt; belongs(path));
         facts.push(FileFact {
             path: Txt::from_str(alloc, path)?,
             name: Txt::from_str(alloc, name)?,

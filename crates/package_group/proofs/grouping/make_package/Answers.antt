@@ -1,7 +1,7 @@
 use Rattle.std.proofs.Common.{List, ℕ, ◌∙◌, ◌≡◌, map, not, sym, subst}
 use Rattle.std.specs.Prelude.{◌&&◌, filter}
-use Rattle.package_group.specs.Groups.{has_name, package_of}
-use Rattle.package_group.specs.Steps.{Lent, seen}
+use Rattle.package_group.specs.Groups.{has_name}
+use Rattle.package_group.specs.Steps.{Lent, package_of, seen}
 use Rattle.package_group.proofs.Members.{package_seen}
 use Rattle.package_group.proofs.grouping.make_package.Goals as goal
 

@@ -1,6 +1,5 @@
 use Rattle.std.proofs.Common.{◌≡◌, ◌++◌, map, string_bytes}
-use Rattle.package_group.specs.Groups.{package_of}
-use Rattle.package_group.specs.Steps.{seen}
+use Rattle.package_group.specs.Steps.{package_of, seen}
 use Rattle.package_group.proofs.grouping.make_packages.Given as goal
 
 abbrev pub invariant-loop-path : goal.invariant-loop-path
