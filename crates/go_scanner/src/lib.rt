@@ -22,3 +22,4 @@ mod word;
 pub use laws::one_reading_or_fault;
 pub use position::{Position, position_of};
 pub use scanner::scan;
+pub use word::front_word;

@@ -118,11 +118,18 @@ pub fn word_shape(word: &[u8]) -> Shape
     }
 }
 
-/// The word at the front.
+/// The letters and digits at the front of a text (Go specification, "Letters and digits").
+#[inline(always)]
+pub fn front_word(text: &str) -> &str
+    ensures { result.now ≡ word_at text.now }
+{
+    &text[..word_length(text)]
+}
+
+/// What the word at the front is.
 #[inline(always)]
 pub fn front_word_shape(text: &str) -> Shape
     ensures { result ≡ word_shape (word_at text.now) }
 {
-    let length = word_length(text);
-    word_shape(&text.as_bytes()[..length])
+    word_shape(front_word(text).as_bytes())
 }

@@ -3,9 +3,10 @@ use Rattle.std.proofs.Common.{◌≡◌, ℕ, zero, suc, ◌≤◌, true, false,
 use Rattle.std.proofs.Common.{take, drop, IsUtf8, encode_utf8_all, sym, ap, ◌∙◌, refl, inl, inr}
 use Rattle.std.proofs.Common.{arith, one-add, length-append}
 use Rattle.std.specs.List.{list_all, prefix_len, take_while}
-use Rattle.std.specs.Str.{all_scalars, chars}
+use Rattle.std.specs.Str.{all_scalars, chars, IsCharBoundary}
 use Rattle.std.proofs.lemmas.Bool.{and_parts, and_from, cases_Bool}
 use Rattle.std.proofs.lemmas.Str.{encodes-chars, scalars-chars, encodes-append}
+use Rattle.std.proofs.lemmas.Str.{IsCharBoundary-at_seam}
 use lib.Utf8.{scalar}
 use Rattle.go_chars.specs.Letters.{is_letter}
 use Rattle.go_chars.specs.Identifiers.{is_among, is_identifier, is_letter_or_digit, keywords}
@@ -157,6 +158,25 @@ front_split bytes utf8 =
           ∙ encodes-append (take n cs) (drop n cs)
           ∙ ap (λ l. l ++ after) (sym (word_at-front bytes)),
     )
+
+scalars-drop : (n : ℕ) (cs : List ℕ) → all_scalars cs ≡ true → all_scalars (drop n cs) ≡ true
+scalars-drop zero cs h = h
+scalars-drop (suc n) [] h = refl
+scalars-drop (suc n) (c ∷ cs) h =
+    scalars-drop n cs (and_parts (scalar c) (all_scalars cs) h).1
+
+-- a character ends where the name at the front does
+pub front_boundary : (bytes : List ℕ) → IsUtf8 bytes → IsCharBoundary bytes (length (word_at bytes))
+front_boundary bytes utf8 =
+    let cs = chars bytes in
+    let n = prefix_len is_letter_or_digit cs in
+    let after = encode_utf8_all (drop n cs) in
+    let split : bytes ≡ word_at bytes ++ after =
+    sym (encodes-chars bytes utf8) ∙ ap encode_utf8_all (split_at n cs)
+    ∙ encodes-append (take n cs) (drop n cs)
+    ∙ ap (λ l. l ++ after) (sym (word_at-front bytes)) in
+    IsCharBoundary-at_seam bytes (word_at bytes) after split
+    (drop n cs, (scalars-drop n cs (scalars-chars bytes utf8), refl))
 
 front_word : (bytes : List ℕ) → IsUtf8 bytes → begins_letter (chars bytes) ≡ true → FrontWord bytes
 front_word bytes utf8 letter =

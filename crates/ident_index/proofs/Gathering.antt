@@ -1,0 +1,54 @@
+-- The hits that are gathered under names.
+use Rattle.std.proofs.Common.{◌≡◌, ℕ, Bool, true, false, ◌||◌, Bor, List, [], ◌∷◌, ◌++◌, cond, if◌then◌else◌, map, filter, length, take, get_or, ◌<◌, ◌+◌, refl, sym, ap, ◌∙◌, append_assoc, append-nil}
+use Rattle.std.specs.List.{list_any}
+use Rattle.std.specs.HashMap.{HashMap}
+use Rattle.std.specs.Global.{Vec}
+use Rattle.std.specs.Str.{bytes_eq}
+use Rattle.std.proofs.lemmas.List.{map-append}
+use Rattle.std.proofs.lemmas.List.Elements.{filter-append}
+use Rattle.std.proofs.lemmas.List.Folds.{list_any-append}
+use Rattle.std.proofs.lemmas.Grind.{take_at_read}
+use Rattle.ident_index.specs.declared.hit.Hit.{Hit}
+use Rattle.ident_index.specs.declared.hit.HitFile.{HitFile}
+use Rattle.ident_index.specs.Postings.{NamedHit, hits_named, named_of, named_of_all}
+use Rattle.ident_index.specs.Tables.{HasGroups, has_group, hits_in}
+
+hits_named-append : (q : List ℕ) (xs ys : List NamedHit) → hits_named q (xs ++ ys) ≡ hits_named q xs ++ hits_named q ys
+hits_named-append q xs ys =
+    ap (map (λ (n : NamedHit). n.hit)) (filter-append (λ (n : NamedHit). bytes_eq q n.name) xs ys)
+    ∙ map-append (λ (n : NamedHit). n.hit) (filter (λ (n : NamedHit). bytes_eq q n.name) xs) (filter (λ (n : NamedHit). bytes_eq q n.name) ys)
+
+one_hit : (n : NamedHit) (b : Bool) → map (λ (m : NamedHit). m.hit) (cond b (n ∷ []) []) ≡ (if b then n.hit ∷ [] else [])
+one_hit n true = refl
+one_hit n false = refl
+
+or-false : (b : Bool) → (b || false) ≡ b
+or-false true = refl
+or-false false = refl
+
+pub gathered_more : {S : Type 0} (old new : HashMap (Bor (List ℕ)) (Vec Hit) S) (named : List NamedHit) (n : NamedHit) → HasGroups old named
+    → ((q : List ℕ) → hits_in new q ≡ hits_in old q ++ (if bytes_eq q n.name then n.hit ∷ [] else []))
+    → ((q : List ℕ) → has_group new q ≡ (has_group old q || bytes_eq q n.name))
+    → HasGroups new (named ++ n ∷ [])
+gathered_more old new named n gathered hits names = record {
+  hits = λ q. hits q ∙ ap (λ hs. hs ++ (if bytes_eq q n.name then n.hit ∷ [] else [])) (gathered.hits q)
+      ∙ ap (λ hs. hits_named q named ++ hs) (sym (one_hit n (bytes_eq q n.name)))
+      ∙ sym (hits_named-append q named (n ∷ []));
+  names = λ q. names q ∙ ap (λ b. b || bytes_eq q n.name) (gathered.names q)
+      ∙ ap (λ b. list_any (bytes_eq q) (map (λ (m : NamedHit). m.name) named) || b) (sym (or-false (bytes_eq q n.name)))
+      ∙ sym (ap (list_any (bytes_eq q)) (map-append (λ (m : NamedHit). m.name) named (n ∷ []))
+      ∙ list_any-append (bytes_eq q) (map (λ (m : NamedHit). m.name) named) (n.name ∷ []));
+}
+
+named_of_all-push : (files : List HitFile) (file : HitFile) → named_of_all (files ++ file ∷ []) ≡ named_of_all files ++ named_of file
+named_of_all-push [] file = append-nil (named_of file)
+named_of_all-push (f ∷ fs) file =
+    ap (λ ns. named_of f ++ ns) (named_of_all-push fs file) ∙ sym (append_assoc (named_of f) (named_of_all fs) (named_of file))
+
+-- the hits of one file more
+pub named_more : (files : List HitFile) (i : ℕ) (file : HitFile) → i < length files → file ≡ get_or files i file
+    → named_of_all (take (i + 1) files) ≡ named_of_all (take i files) ++ named_of file
+named_more files i file within is =
+    let more : take (i + 1) files ≡ take i files ++ file ∷ [] =
+    (take_at_read files i file within).1 ∙ ap (λ (f : HitFile). take i files ++ f ∷ []) (sym is) in
+    ap named_of_all more ∙ named_of_all-push (take i files) file

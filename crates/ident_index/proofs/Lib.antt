@@ -1,0 +1,5 @@
+mod Finding
+mod Gathering
+mod Halves
+mod Layouts
+mod Sorting

@@ -1,0 +1,63 @@
+//! The hits of files, gathered by their names.
+
+ghost use Rattle.std.specs.Prelude.{◌≡◌, ◌++◌, [], ◌∷◌, ℕ, ◌||◌, List, All, IfOk, OnOk, IsUtf8};
+ghost use Rattle.std.specs.Prelude.{drop, is_some, if◌then◌else◌, map};
+ghost use Rattle.std.specs.Str.{IsCharBoundary, bytes_eq};
+ghost use Rattle.ident_index.specs.Postings.{HasNames, NamedHit, name_at, named_of, named_of_all};
+ghost use Rattle.ident_index.specs.Tables.{HasGroups, has_group, hits_in};
+
+use crate::hit::{Hit, HitFile};
+use go_scanner::front_word;
+use plain_data::Mem;
+use std::alloc::Global;
+use std::collections::HashMap;
+use std::str;
+
+/// The hits of each name.
+pub(crate) type Groups<'a> = HashMap<&'a str, Vec<Hit>>;
+
+/// The name that stands at an offset of a text.
+fn name_at(text: &str, offset: u32) -> &str
+    requires { IsCharBoundary text.now offset }
+    ensures { result.now ≡ name_at text.now offset }
+{
+    front_word(&text[offset as usize..])
+}
+
+/// Adds a hit at the end of those of its name.
+fn add_hit<'a>(groups: &mut Groups<'a>, name: &'a str, hit: Hit) -> Mem<()>
+    ensures hits { OnOk result ((q : List ℕ) → hits_in groups.new q
+        ≡ hits_in groups.old q ++ (if bytes_eq q name.now then hit ∷ [] else [])) }
+    ensures names { OnOk result ((q : List ℕ) → has_group groups.new q
+        ≡ (has_group groups.old q || bytes_eq q name.now)) }
+{
+    groups.entry(name)?.or_default().push(hit)?;
+    Ok(())
+}
+
+/// Adds the hits of a file.
+fn add_file<'a>(groups: &mut Groups<'a>, file: &'a HitFile) -> Mem<()>
+    requires { HasNames file.now }
+    ensures { OnOk result ((before : List NamedHit) → HasGroups groups.old before
+        → HasGroups groups.new (before ++ named_of file.now)) }
+{
+    let Ok(text) = str::from_utf8(file.source.as_slice()) else {
+        return Ok(());
+    };
+    for hit in file.hits.as_slice() {
+        add_hit(groups, name_at(text, hit.offset), *hit)?;
+    }
+    Ok(())
+}
+
+/// The hits of all files by their names.
+pub(crate) fn group_hits<'a>(alloc: Global, files: &'a [HitFile]) -> Mem<Groups<'a>>
+    requires { All HasNames files.now }
+    ensures { IfOk result (λ groups. HasGroups groups (named_of_all files.now)) }
+{
+    let mut groups = HashMap::new(alloc);
+    for file in files {
+        add_file(&mut groups, file)?;
+    }
+    Ok(groups)
+}

@@ -1,0 +1,39 @@
+//! The search for a name by halving.
+
+ghost use Rattle.std.specs.Prelude.{◌≡◌, ℕ, ◌≤◌, ◌<◌, ◌-◌, ◌+◌, ◌*◌, ◌^◌, length, AllPairs, All};
+ghost use Rattle.std.specs.Prelude.{MatchOption, false};
+ghost use Rattle.std.specs.Str.{bytes_eq};
+ghost use Rattle.ident_index.specs.Tables.{IsEntryBelow, IsNamedAt};
+
+use crate::postings::Entry;
+use crate::steps::Steps;
+use std::cmp::Ordering;
+use std::sync::ledger::Ledger;
+
+/// The place of a name among sorted names, or `None` where it isn't there. Each name that it looks
+/// at is one step.
+pub(crate) fn place_of<L: Ledger>(
+    entries: &[Entry],
+    name: &[u8],
+    steps: &mut Steps<L>,
+) -> Option<usize>
+    requires { AllPairs IsEntryBelow entries.now }
+    ensures found { MatchOption result
+        (All (λ e. bytes_eq name.now e.name.items ≡ false) entries.now)
+        (IsNamedAt name.now entries.now) }
+    ensures later { steps.old ≤ steps.new }
+    ensures cost { 2 ^ (steps.new - steps.old) ≤ 2 * length entries.now + 1 }
+{
+    let mut low = 0;
+    let mut high = entries.len();
+    while low < high {
+        let middle = low + (high - low) / 2;
+        steps.tick();
+        match entries[middle].name.as_slice().cmp(name) {
+            Ordering::Less => low = middle + 1,
+            Ordering::Equal => return Some(middle),
+            Ordering::Greater => high = middle,
+        }
+    }
+    None
+}
