@@ -128,6 +128,10 @@ fn note_of(text: &str) -> Option<&str>
 /// begins `BUG(`, a name that isn't empty and has no parenthesis, `)`, and an optional `:`. The
 /// note is what stands behind these, without the blanks and newlines at both ends (`go/doc`,
 /// `Note`).
+///
+/// # Errors
+///
+/// `NoMemory` where an allocation is refused.
 pub fn bug(alloc: Global, text: &str) -> Mem<Option<Txt>>
     ensures { IfOk result (λ note. note ≡ bug_of text.now) }
 {
@@ -149,6 +153,10 @@ fn says_deprecated(block: &Block) -> bool
 
 /// Whether the text of a doc comment says that what it documents is deprecated: one of its
 /// paragraphs begins `Deprecated: ` (Go Doc Comments, "Deprecations").
+///
+/// # Errors
+///
+/// `NoMemory` where an allocation is refused.
 pub fn deprecated(alloc: Global, text: &str) -> Mem<bool>
     ensures { IfOk result (λ deprecated. deprecated ≡ is_deprecated text.now) }
 {

@@ -46,6 +46,10 @@ fn synopsis_of_paragraph(alloc: Global, text: &str) -> Mem<Txt>
 /// letter stands alone before it, or behind the first U+3002 or U+FF0E, and else with the
 /// paragraph. The answer is empty where it would begin `copyright`, `all rights` or `author`, in
 /// any case of ASCII letters.
+///
+/// # Errors
+///
+/// `NoMemory` where an allocation is refused.
 pub fn synopsis(alloc: Global, text: &str) -> Mem<Txt>
     ensures { IfOk result (λ synopsis. synopsis ≡ synopsis_of text.now) }
 {
