@@ -1,0 +1,4 @@
+pub mod Inlines
+pub mod InlinesOf
+pub mod InlineSteps
+pub mod Marks
