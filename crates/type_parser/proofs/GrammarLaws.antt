@@ -17,3 +17,4 @@ pub use Rattle.type_parser.proofs.TypeParamLaws.{read_declared-sound, read_decla
 pub use Rattle.type_parser.proofs.TypeParamLaws.{read_entries-sound, read_entries-complete}
 pub use Rattle.type_parser.proofs.TypeParamLaws.{read_type_params-sound, read_type_params-complete}
 pub use Rattle.type_parser.proofs.TypeParamLaws.{one-declared, one-entries, once, answers}
+pub use Rattle.type_parser.proofs.EntryLists.{from-place, length-reverse}

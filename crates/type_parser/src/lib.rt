@@ -22,6 +22,6 @@ pub use laws::{
     cut_where_enclosed, declared_once, levels_agree, signature_spelled_once, spelled_once,
     type_params_spelled_once,
 };
-pub use mark::word_at;
+pub use mark::{mark_at, text_of, word_at};
 pub use parse::parse_type;
 pub use words::{MatchedWords, Words, matched_words};

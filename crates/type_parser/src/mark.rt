@@ -98,7 +98,7 @@ fn mark_of(kind: TokenKind, text: &[u8]) -> Mark
 }
 
 /// The bytes of a span, as far as they are in the source.
-fn text_of(source: &[u8], span: Span) -> &[u8]
+pub fn text_of(source: &[u8], span: Span) -> &[u8]
     ensures { result.now ≡ spec.text_of source.now span }
 {
     let start = (span.start as usize).min(source.len());
@@ -107,13 +107,20 @@ fn text_of(source: &[u8], span: Span) -> &[u8]
     &rest[..length.min(rest.len())]
 }
 
+/// What a token of a source is.
+pub fn mark_at(source: &[u8], token: &Token) -> Mark
+    ensures { result ≡ spec.mark_of token.now.kind (spec.text_of source.now token.now.span) }
+{
+    mark_of(token.kind, text_of(source, token.span))
+}
+
 /// A token with what it is, at a place in the list of tokens.
 fn word_of(source: &[u8], place: u32, token: &Token) -> Word
     requires { place + 1 < 2 ^ 32 }
     ensures { result ≡ spec.word_of source.now place token.now }
 {
     Word {
-        mark: mark_of(token.kind, text_of(source, token.span)),
+        mark: mark_at(source, token),
         span: token.span,
         tokens: TokenRange {
             first: place,

@@ -1,0 +1,5 @@
+mod Standings
+mod Steps
+mod Segments
+mod PlainTokens
+pub mod BracketLaws

@@ -1,0 +1,2 @@
+pub mod ChunkFacts
+pub mod Cutter
