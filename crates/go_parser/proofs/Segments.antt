@@ -1,6 +1,6 @@
 -- Words by their tokens.
-use Rattle.std.proofs.Common.{◌≡◌, ◌∙◌, ap, sym, refl, subst, ℕ, zero, suc, ◌+◌, ◌-◌, ◌<◌, ◌≤◌, min}
-use Rattle.std.proofs.Common.{List, [], ◌∷◌, ◌++◌, length, map, take, drop, Option, Some, None, All}
+use Rattle.std.proofs.Common.{◌≡◌, ◌∙◌, ap, sym, refl, ℕ, zero, suc, ◌+◌, ◌-◌, ◌<◌, ◌≤◌, min}
+use Rattle.std.proofs.Common.{List, [], ◌∷◌, ◌++◌, length, map, take, drop, Option, All}
 use Rattle.std.proofs.Common.{append_assoc, arith, length-append, Result, Ok, Err, IfOk}
 use Rattle.std.proofs.lemmas.List.{length-take}
 use Rattle.std.proofs.lemmas.List.Elements.{All-weaker}
@@ -13,7 +13,7 @@ use Rattle.go_parser.specs.declared.chunk.Cut.{Cut}
 use Rattle.go_parser.specs.declared.chunk.Cut.TheVariants as cuts
 use Rattle.go_parser.specs.ChunkFacts as facts
 use Rattle.go_parser.specs.ChunkFacts.{AreChunks, IsChunk, IsCut, IsFaultAt, IsOpened}
-use Rattle.go_parser.specs.Cutter.{AreEnded, IsCutOf, IsEnded, IsFaultOf, LastCloses, nothing, bracket}
+use Rattle.go_parser.specs.Cutter.{IsCutOf, IsEnded, LastCloses, nothing, bracket}
 use Rattle.go_parser.specs.Cutter.{Reached, segment}
 use Rattle.go_parser.specs.declared.cutter.OpenBracket.{OpenBracket}
 

@@ -1,17 +1,15 @@
 -- Brackets that are open, word by word.
-use Rattle.std.proofs.Common.{◌≡◌, ◌≢◌, ◌∙◌, ap, sym, refl, subst, ℕ, zero, suc, ◌+◌, ◌-◌, Bool}
-use Rattle.std.proofs.Common.{true, false, List, [], ◌∷◌, ◌++◌, append_assoc, append-nil, length}
+use Rattle.std.proofs.Common.{◌≡◌, ◌∙◌, ap, sym, refl, subst, ℕ, ◌+◌, Bool}
+use Rattle.std.proofs.Common.{true, false, List, [], ◌∷◌, ◌++◌, append_assoc, length}
 use Rattle.std.proofs.Common.{Option, Some, None, arith, get_or, drop}
 use Rattle.std.specs.Option.{option_and_then}
 use Rattle.go_ast.specs.declared.word.Word.{Word}
-use Rattle.go_ast.specs.declared.word.Mark.{Mark}
-use Rattle.go_ast.specs.declared.word.Mark.TheVariants as m
 use Rattle.go_ast.specs.Chunks.{after_word, closed_by, open_after}
 use Rattle.go_ast.specs.Cutting.{Nests, closing_of, depth_after}
 use Rattle.go_ast.specs.Marks.{opens, closes, same_mark}
 use Rattle.type_parser.proofs.GrammarLaws.{closes-not-opens, opens-not-closes, some-is}
 use Rattle.type_parser.proofs.GrammarLaws.{marks_are, marks_same, one-less}
-use Rattle.go_parser.specs.Cutter.{LastCloses, nothing, bracket, Standing, outside, within}
+use Rattle.go_parser.specs.Cutter.{LastCloses, bracket, Standing, outside, within}
 
 -- after one word more
 pub open-more : (start front stack : List Word) (w : Word) → open_after start front ≡ Some stack

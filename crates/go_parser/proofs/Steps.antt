@@ -1,7 +1,7 @@
 -- What is kept, token by token.
 use Rattle.std.proofs.Common.{◌≡◌, ◌∙◌, ap, sym, refl, subst, ℕ, zero, suc, ◌+◌, ◌-◌, ◌<◌, ◌≤◌}
 use Rattle.std.proofs.Common.{Bool, true, false, ◌&&◌, ◌==◌, List, [], ◌∷◌, ◌++◌, append_assoc}
-use Rattle.std.proofs.Common.{append-nil, length, map, take, drop, Option, Some, None, All, filter}
+use Rattle.std.proofs.Common.{append-nil, length, map, drop, Option, Some, None, All, filter}
 use Rattle.std.proofs.Common.{⊎_elim, inl, inr, ◌⊎◌, reverse, arith, get_or, length-append, length-drop, take_all}
 use Rattle.type_parser.proofs.GrammarLaws.{length-reverse}
 use Rattle.std.proofs.lemmas.Bool.Decides.{nat_tests}
@@ -13,9 +13,9 @@ use Rattle.go_ast.specs.declared.word.Mark.{Mark}
 use Rattle.go_ast.specs.declared.word.Mark.TheVariants as m
 use Rattle.go_ast.specs.Chunks.{IsUnbalancedAt, mismatched, left_open, after_word, chunks}
 use Rattle.go_ast.specs.Chunks.{has_words, open_after}
-use Rattle.go_ast.specs.Cutting.{closing_of, depth_after, pieces, pieces_from}
+use Rattle.go_ast.specs.Cutting.{closing_of, pieces, pieces_from}
 use Rattle.go_ast.specs.Marks.{opens, closes, same_mark}
-use Rattle.type_parser.proofs.GrammarLaws.{closes-not-opens, marks_are, marks_same, some-is}
+use Rattle.type_parser.proofs.GrammarLaws.{marks_are, marks_same}
 use Rattle.go_parser.specs.declared.chunk.Chunk.{Chunk}
 use Rattle.go_parser.specs.declared.cutter.OpenBracket.{OpenBracket}
 use Rattle.go_parser.specs.Cutter.{AreEnded, IsEnded, IsFaultOf, LastCloses, nothing}

@@ -1,7 +1,7 @@
 -- Type parameters, signatures and names with a type: what is read is spelled so, and what is
 -- spelled so is read.
 use Rattle.std.proofs.Common.{◌≡◌, ◌∙◌, ap, sym, refl, subst, true, false, Bool, List, [], ◌∷◌}
-use Rattle.std.proofs.Common.{◌++◌, Option, Some, None, if◌then◌else◌, Result, Ok, Err, IfOk, MatchOption, slice_get}
+use Rattle.std.proofs.Common.{Option, Some, None, if◌then◌else◌, Result, Ok, Err, IfOk, MatchOption, slice_get}
 use Rattle.go_ast.specs.declared.declaration.TypeParam.{TypeParam}
 use Rattle.go_ast.specs.declared.token.Span.{Span}
 use Rattle.go_ast.specs.declared.tree.Signature.{Signature}

@@ -1,6 +1,6 @@
 -- Entries of type parameters, each read with the one after it. Only proofs and private clauses use
 -- these.
-use Rattle.std.specs.Prelude.{Bool, true, false, List, [], ◌∷◌, Option, Some, None}
+use Rattle.std.specs.Prelude.{List, [], ◌∷◌, Option, Some, None}
 use Rattle.std.specs.Prelude.{if◌then◌else◌, slice_get}
 use Rattle.go_ast.specs.declared.declaration.TypeParam.{TypeParam}
 use Rattle.go_ast.specs.declared.tree.TypeExpr.{TypeExpr}

@@ -1,5 +1,5 @@
-use Rattle.std.proofs.Common.{◌≡◌, ◌∙◌, sym, ap, subst, refl, [], ◌∷◌, ◌+◌, suc, reverse, drop, get_or}
-use Rattle.std.proofs.Common.{length, ◌<◌, ◌≤◌, Bool, true, false, MatchBool, arith, slice_index_or}
+use Rattle.std.proofs.Common.{◌≡◌, subst, refl, ◌+◌, suc, reverse, drop, get_or}
+use Rattle.std.proofs.Common.{Bool, true, false, MatchBool}
 use Rattle.go_ast.specs.Chunks.{IsUnbalancedAt}
 use Rattle.go_ast.specs.Marks.{word_of, words_from}
 use Rattle.type_parser.proofs.GrammarLaws.{from-place}

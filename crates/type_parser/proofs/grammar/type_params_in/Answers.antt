@@ -1,9 +1,5 @@
-use Rattle.std.proofs.Common.{◌≡◌, ◌∙◌, sym, refl, subst, IfOk}
-use Rattle.go_ast.specs.TypeParameters.{AreTypeParams}
-use Rattle.type_parser.specs.Reading.{type_of}
-use Rattle.type_parser.specs.TypeParams.{read_type_params}
-use Rattle.type_parser.proofs.TypeParamLaws.{answers, read_type_params-sound}
-use Rattle.type_parser.proofs.TypeParamLaws.{read_type_params-complete, array-reads, entries-read}
+use Rattle.std.proofs.Common.{◌≡◌, ◌∙◌, sym, subst, IfOk}
+use Rattle.type_parser.proofs.TypeParamLaws.{array-reads, entries-read}
 use Rattle.type_parser.proofs.grammar.type_params_in.Goals as goal
 
 pub returns-then-is_array_like-clause-read : goal.returns-then-is_array_like-clause-read

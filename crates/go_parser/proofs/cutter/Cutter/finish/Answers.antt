@@ -1,4 +1,4 @@
-use Rattle.std.proofs.Common.{◌≡◌, ◌∙◌, sym, ap, subst, refl, [], reverse, drop, length, ◌<◌, ◌≤◌, arith}
+use Rattle.std.proofs.Common.{◌≡◌, ◌∙◌, sym, ap, reverse, length, arith}
 use Rattle.go_parser.proofs.Steps.{left-open, end-any, empty-is, first-last}
 use Rattle.go_parser.proofs.cutter.Cutter.finish.Goals as goal
 

@@ -1,4 +1,3 @@
-use Rattle.std.proofs.Common.{◌≡◌, sym, ap, reverse}
 use Rattle.go_parser.proofs.Steps.{at-first}
 use Rattle.go_parser.proofs.cutter.Cutter.new.Goals as goal
 

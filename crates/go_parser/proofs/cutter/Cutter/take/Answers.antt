@@ -1,8 +1,6 @@
-use Rattle.std.proofs.Common.{◌≡◌, ◌∙◌, sym, ap, subst, refl, None, [], ◌∷◌, ◌+◌, Bool, true, false}
-use Rattle.std.proofs.Common.{reverse, length, ◌&&◌, ◌==◌}
+use Rattle.std.proofs.Common.{◌≡◌, ◌∙◌, sym, ap, subst, refl, None, ◌∷◌, ◌+◌}
+use Rattle.std.proofs.Common.{reverse}
 use Rattle.std.proofs.lemmas.List.{reverse-append}
-use Rattle.go_ast.specs.declared.word.Mark.TheVariants as m
-use Rattle.go_ast.specs.Cutting.{closing_of}
 use Rattle.go_parser.specs.Cutter.{Reached, kept}
 use Rattle.go_parser.proofs.Steps.{opens-one, passes-one, and-false, semi-mark}
 use Rattle.go_parser.proofs.cutter.Cutter.take.Goals as goal

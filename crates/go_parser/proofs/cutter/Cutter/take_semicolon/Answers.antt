@@ -1,4 +1,4 @@
-use Rattle.std.proofs.Common.{◌≡◌, ◌∙◌, sym, ap, subst, None, [], ◌+◌, ◌<◌, reverse, length, arith}
+use Rattle.std.proofs.Common.{◌≡◌, ◌∙◌, sym, ap, subst, None, ◌+◌, ◌<◌, reverse, length, arith}
 use Rattle.std.proofs.lemmas.Bool.Decides.{nat_tests}
 use Rattle.go_parser.specs.Cutter.{Reached}
 use Rattle.go_parser.proofs.Steps.{semi-any, semi-within, empty-is, some-left}

@@ -1,4 +1,4 @@
-use Rattle.std.proofs.Common.{◌≡◌, ◌∙◌, sym, ap, subst, suc, [], ◌∷◌, option_copied}
+use Rattle.std.proofs.Common.{◌≡◌, ◌∙◌, sym, ap, subst, suc, [], ◌∷◌}
 use Rattle.std.proofs.Common.{Some, reverse, length, drop, slice_get, ◌-◌, arith}
 use Rattle.std.proofs.lemmas.List.{reverse-append}
 use Rattle.type_parser.specs.Reading.{type_of}
