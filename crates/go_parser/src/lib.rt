@@ -1,5 +1,5 @@
-//! The chunks of a source file: the runs of tokens between semicolons outside brackets (Go
-//! specification, "Source file organization").
+//! The files that tokens spell: chunks between semicolons, and their declarations (Go
+//! specification, "Source file organization", "Declarations and scope").
 #![tactic(auto)]
 
 mod chunk;
@@ -7,8 +7,20 @@ mod chunk;
 mod chunk_tests;
 mod chunks;
 mod cutter;
+mod declaration;
+mod function;
+mod group;
+mod import;
+mod laws;
 mod nesting;
+mod read;
+mod receiver;
+#[cfg(test)]
+mod tests;
+mod type_spec;
+mod value;
 
 pub use chunk::{Chunk, Cut};
 pub use chunks::chunks_of;
+pub use laws::{declaration_spelled_once, file_spelled_once};
 pub use nesting::one_unbalanced_bracket;
