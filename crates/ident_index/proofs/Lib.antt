@@ -1,5 +1,9 @@
 mod Finding
+mod Flattening
 mod Gathering
 mod Halves
+mod KindLemmas
 mod Layouts
+mod Passing
+mod Readings
 mod Sorting

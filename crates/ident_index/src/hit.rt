@@ -3,7 +3,7 @@
 use plain_data::{Bytes, Seq};
 
 /// What an identifier is, by the place where it stands.
-#[derive(Clone, Copy, Debug, PartialEq, Eq)]
+#[derive(Clone, Copy, Debug, PartialEq, Eq, PartialOrd, Ord)]
 pub enum HitKind {
     /// The name of a package clause.
     PackageName,

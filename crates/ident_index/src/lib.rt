@@ -4,9 +4,12 @@
 //! `specs/Postings.antt` says what the table of names holds.
 #![tactic(auto)]
 
+mod declarations;
 mod groups;
 mod hit;
+mod hits;
 mod laws;
+mod names;
 mod postings;
 mod search;
 mod steps;
@@ -14,6 +17,7 @@ mod steps;
 mod tests;
 
 pub use hit::{Hit, HitFile, HitKind};
-pub use laws::hits_of_a_posting;
+pub use hits::hits_of;
+pub use laws::{hits_of_a_posting, names_of_hits};
 pub use postings::Postings;
 pub use steps::Steps;

@@ -1,11 +1,18 @@
 ghost use Rattle.std.specs.Prelude.{◌≡◌, ◌<◌, All, IfOk};
 ghost use Rattle.ident_index.specs.Postings.{HasNames};
 
-use crate::{Hit, HitFile, HitKind, Postings, Steps};
+use crate::{Hit, HitFile, HitKind, Postings, Steps, hits_of};
+use go_ast::{
+    Decl, Element, Field, File, FuncDecl, Group, ImportName, ImportSpec, MAX_SOURCE_BYTES, Param,
+    Receiver, Signature, Span, Term, TokenRange, TypeExpr, TypeParam, TypeSpec, ValueSpec,
+};
+use go_scanner::scan;
 use plain_data::{Bytes, Mem, NoMemory, Seq, Txt};
+use sqlite_items::Boxed;
 use std::alloc::{AllocError, Global};
 use std::marker::Brand;
 use std::mem::size_of;
+use std::process::Abort;
 use std::sync::ledger::{Blank, Ledger};
 use std::test::Fail;
 
@@ -95,5 +102,262 @@ fn no_file_has_no_names(rt: HostRuntime) -> Result<(), Fail> {
     assert_eq!(rt; postings.total(), 0);
     let told = places(rt.alloc(), &postings, "a")?;
     assert_eq!(rt; told.as_str(), "");
+    Ok(())
+}
+
+/// The name of one letter at an offset.
+fn letter(start: u32) -> Span {
+    Span {
+        start,
+        end: start.saturating_add(1),
+    }
+}
+
+fn letters(alloc: Global, starts: &[u32]) -> Mem<Seq<Span>> {
+    let mut spans = Seq::new(alloc);
+    for start in starts {
+        spans.push(letter(*start))?;
+    }
+    Ok(spans)
+}
+
+fn no_tokens() -> TokenRange {
+    TokenRange { first: 0, after: 0 }
+}
+
+/// The list of one thing.
+fn one<T: Drop>(alloc: Global, only: T) -> Mem<Seq<T>> {
+    let mut list = Seq::new(alloc);
+    list.push(only)?;
+    Ok(list)
+}
+
+/// The list of two things.
+fn two<T: Drop>(alloc: Global, first: T, last: T) -> Mem<Seq<T>> {
+    let mut list = Seq::new(alloc);
+    list.push(first)?;
+    list.push(last)?;
+    Ok(list)
+}
+
+fn named(alloc: Global, start: u32) -> TypeExpr {
+    TypeExpr::Name {
+        qualifier: None,
+        name: letter(start),
+        args: Seq::new(alloc),
+    }
+}
+
+fn field(alloc: Global, names: &[u32], typ: u32) -> Mem<Field> {
+    Ok(Field {
+        tokens: no_tokens(),
+        names: letters(alloc, names)?,
+        typ: named(alloc, typ),
+        tag: None,
+    })
+}
+
+fn parameter(name: u32, typ: TypeExpr) -> Param {
+    Param {
+        name: Some(letter(name)),
+        typ,
+        variadic: false,
+    }
+}
+
+fn term(alloc: Global, typ: u32) -> Term {
+    Term {
+        tilde: false,
+        typ: named(alloc, typ),
+    }
+}
+
+fn group<S: Drop>(alloc: Global, spec: S) -> Mem<Group<S>> {
+    Ok(Group {
+        tokens: no_tokens(),
+        grouped: false,
+        specs: one(alloc, spec)?,
+    })
+}
+
+fn import(alloc: Global, local: ImportName) -> Mem<Decl> {
+    let spec = ImportSpec {
+        tokens: no_tokens(),
+        local,
+        path: letter(0),
+    };
+    Ok(Decl::Import(group(alloc, spec)?))
+}
+
+fn values(alloc: Global, names: &[u32], typ: TypeExpr) -> Mem<ValueSpec> {
+    Ok(ValueSpec {
+        tokens: no_tokens(),
+        names: letters(alloc, names)?,
+        typ: Some(typ),
+        value: None,
+    })
+}
+
+/// A file of the package `p` with these declarations.
+fn file_of(decls: Seq<Decl>) -> File {
+    File {
+        package: letter(8),
+        decls,
+    }
+}
+
+/// The line, the offset and the kind of each identifier of a file.
+fn hits_in(
+    rt: &(impl Abort + AllocGlobal),
+    source: &str,
+    decls: Seq<Decl>,
+) -> Result<String, Fail> {
+    let mut told = String::new(rt.alloc());
+    let source = source.as_bytes();
+    assert!(rt; source.len() <= MAX_SOURCE_BYTES);
+    match scan(rt.alloc(), source) {
+        Ok(scanned) => {
+            let hits = hits_of(rt.alloc(), source, &scanned, &file_of(decls), 7)?;
+            for hit in hits.as_slice() {
+                assert_eq!(rt; hit.file, 7);
+                write!(told, "{}:{} {:?} ", hit.line, hit.offset, hit.kind)?;
+            }
+        }
+        Err(refused) => assert!(rt; false, "{refused:?} of {source:?}"),
+    }
+    Ok(told)
+}
+
+#[test]
+fn packages_imports_and_values_are_declared(rt: HostRuntime) -> Result<(), Fail> {
+    let alloc = rt.alloc();
+    let source = "package p\nimport q \"a\"\nimport . \"b\"\nconst A, B T = C, 1\nvar v D\n";
+    let mut decls = Seq::new(alloc);
+    decls.push(import(alloc, ImportName::Named(letter(17)))?)?;
+    decls.push(import(alloc, ImportName::Dot)?)?;
+    let constants = values(alloc, &[42, 45], named(alloc, 47))?;
+    decls.push(Decl::Const(group(alloc, constants)?))?;
+    let variable = values(alloc, &[60], named(alloc, 62))?;
+    decls.push(Decl::Var(group(alloc, variable)?))?;
+    let told = hits_in(&rt, source, decls)?;
+    assert_eq!(rt;
+        told.as_str(),
+        "1:8 PackageName 2:17 ImportName 4:42 ConstName 4:45 ConstName 4:47 Usage 4:51 Usage \
+         5:60 VarName 5:62 Usage "
+    );
+    Ok(())
+}
+
+/// A type declaration.
+fn type_decl(alloc: Global, name: u32, params: Seq<TypeParam>, typ: TypeExpr) -> Mem<Decl> {
+    let spec = TypeSpec {
+        tokens: no_tokens(),
+        name: letter(name),
+        params,
+        alias: false,
+        typ,
+    };
+    Ok(Decl::Types(group(alloc, spec)?))
+}
+
+#[test]
+fn fields_and_methods_of_types_are_declared(rt: HostRuntime) -> Result<(), Fail> {
+    let alloc = rt.alloc();
+    let source = "package p\ntype T[P E] struct { x, y U; V }\n\
+                  type I = interface { m(a A) (r R); W }\n";
+    let mut decls = Seq::new(alloc);
+    let fields = two(alloc, field(alloc, &[31, 34], 36)?, field(alloc, &[], 39)?)?;
+    let param = TypeParam {
+        name: letter(17),
+        bound: one(alloc, term(alloc, 19))?,
+    };
+    decls.push(type_decl(alloc, 15, one(alloc, param)?, TypeExpr::Struct(fields))?)?;
+    let method = Element::Method {
+        tokens: no_tokens(),
+        name: letter(64),
+        sig: Signature {
+            params: one(alloc, parameter(66, named(alloc, 68)))?,
+            results: one(alloc, parameter(72, named(alloc, 74)))?,
+        },
+    };
+    let embedded = Element::Terms {
+        tokens: no_tokens(),
+        terms: one(alloc, term(alloc, 78))?,
+    };
+    let elements = two(alloc, method, embedded)?;
+    decls.push(type_decl(alloc, 48, Seq::new(alloc), TypeExpr::Interface(elements))?)?;
+    let told = hits_in(&rt, source, decls)?;
+    assert_eq!(rt;
+        told.as_str(),
+        "1:8 PackageName 2:15 TypeName 2:17 Usage 2:19 Usage 2:31 VarName 2:34 VarName 2:36 Usage \
+         2:39 Usage 3:48 TypeName 3:64 MethodName 3:66 Usage 3:68 Usage 3:72 Usage 3:74 Usage \
+         3:78 Usage "
+    );
+    Ok(())
+}
+
+/// A function with at most one parameter and no result.
+fn function(alloc: Global, name: u32, receiver: Option<Receiver>, params: Seq<Param>) -> Decl {
+    Decl::Func(FuncDecl {
+        tokens: no_tokens(),
+        name: letter(name),
+        receiver,
+        params: Seq::new(alloc),
+        sig: Signature {
+            params,
+            results: Seq::new(alloc),
+        },
+        body: None,
+    })
+}
+
+#[test]
+fn what_stands_in_a_body_is_a_use(rt: HostRuntime) -> Result<(), Fail> {
+    let alloc = rt.alloc();
+    let source = "package p\nfunc f(a struct { x A }) { type L struct { z B } }\n\
+                  func (r *T) g() {}\n";
+    let mut decls = Seq::new(alloc);
+    let typ = TypeExpr::Struct(one(alloc, field(alloc, &[28], 30)?)?);
+    decls.push(function(alloc, 15, None, one(alloc, parameter(17, typ))?))?;
+    let receiver = Receiver {
+        name: Some(letter(67)),
+        pointer: true,
+        base: letter(70),
+        params: Seq::new(alloc),
+    };
+    decls.push(function(alloc, 73, Some(receiver), Seq::new(alloc)))?;
+    let told = hits_in(&rt, source, decls)?;
+    assert_eq!(rt;
+        told.as_str(),
+        "1:8 PackageName 2:15 FuncName 2:17 Usage 2:28 VarName 2:30 Usage 2:42 Usage 2:53 Usage \
+         2:55 Usage 3:67 Usage 3:70 Usage 3:73 MethodName "
+    );
+    Ok(())
+}
+
+#[test]
+fn what_stands_in_a_length_or_a_value_is_a_use(rt: HostRuntime) -> Result<(), Fail> {
+    let alloc = rt.alloc();
+    let source = "package p\nvar v [N]struct { x A } = F(struct { y B }{})\n";
+    let elem = TypeExpr::Struct(one(alloc, field(alloc, &[28], 30)?)?);
+    let array = TypeExpr::Array {
+        length: no_tokens(),
+        elem: Boxed::new(alloc, elem)?,
+    };
+    let variable = Decl::Var(group(alloc, values(alloc, &[14], array)?)?);
+    let told = hits_in(&rt, source, one(alloc, variable)?)?;
+    assert_eq!(rt;
+        told.as_str(),
+        "1:8 PackageName 2:14 VarName 2:17 Usage 2:28 VarName 2:30 Usage 2:36 Usage 2:47 Usage \
+         2:49 Usage "
+    );
+    Ok(())
+}
+
+#[test]
+fn names_in_comments_and_texts_are_no_hits(rt: HostRuntime) -> Result<(), Fail> {
+    let source = "package p // q\n/* q */ var _ = \"q\"\n";
+    let told = hits_in(&rt, source, Seq::new(rt.alloc()))?;
+    assert_eq!(rt; told.as_str(), "1:8 PackageName 2:27 Usage ");
     Ok(())
 }

@@ -1,0 +1,74 @@
+use Rattle.std.proofs.Common.{◌≡◌, ◌≤◌, ◌+◌, ℕ, Fits, w32, length, arith, ap, sym, subst, ◌∙◌, ◌<◌, List, drop, take, filter, get_or, refl, Vec, Global}
+use Rattle.std.specs.List.{AllZip}
+use Rattle.go_ast.specs.declared.token.Token.{Token}
+use Rattle.go_ast.specs.declared.token.Span.{Span}
+use Rattle.go_ast.specs.declared.token.TokenKind.TheVariants.{Ident}
+use Rattle.go_ast.specs.Position.{line_starts}
+use Rattle.go_ast.specs.Tokens.{is_ident}
+use Rattle.go_scanner.specs.Answers.{AreInOrder}
+use Rattle.ident_index.specs.Hits.{IsHitOf, IsKindAt}
+use Rattle.ident_index.specs.Naming.{names_of_file}
+use Rattle.ident_index.specs.declared.hit.Hit.{Hit}
+use Rattle.ident_index.specs.Places.{AreLinesTo, AreNamesBefore}
+use Rattle.ident_index.proofs.Passing.{ident_test, line_counted, kind_reordered, lines_few, lines_on, names_on, next_in_order, order_within, zip_passed, zip_passing}
+use Rattle.ident_index.proofs.hits.hits_of.Goals as goal
+use Rattle.ident_index.proofs.hits.hits_of.Goals.{then-eq+in_ok-push, else-eq}
+
+-- src/hits.rt:116:23
+pub overflow_cast-passed : goal.overflow_cast-passed
+overflow_cast-passed c =
+    omega (arith, c.lines_to.ensures.so_many.within, ap length (c.as_slice-starts.ensures ∙ c.requires.lines), lines_few c.args.source.now, c.requires.size)
+
+-- src/hits.rt:106:5
+pub loop-token-preserved : goal.loop-token-preserved
+loop-token-preserved c =
+    let source = c.args.source.now in
+    let tokens = c.as_slice-token-items.result.now in
+    let i = c.loop-token.token-index in
+    let d : Token = record { kind = Ident; span = record { start = 0; end = 0 } } in
+    let from = c.loop-token.invariant.0 in
+    let next = next_in_order tokens i from (length source) d c.loop-token-test.true c.loop-token.invariant.1 in
+    let token = get_or tokens i d in
+    let test : is_ident token.kind ≡ c.eq.result = sym (c.eq.ensures ∙ ident_test token.kind) in
+    let related = IsHitOf source c.args.file.now c.args.number in
+    let starts = c.as_slice-starts.result.now in
+    let names = c.in_ok-names.names.items in
+    elim c.if-eq.branch [
+      | then-eq+in_ok-push w ↦
+          let start = token.span.start in
+          let lines : AreLinesTo starts start w.lines_to.result = w.lines_to.ensures.so_many in
+          let before : AreNamesBefore names start w.names_before.result =
+          subst (λ l. AreNamesBefore l start w.names_before.result) w.as_slice.ensures.value w.names_before.ensures.so_many in
+          let first : starts ≡ line_starts source = c.as_slice-starts.ensures ∙ c.requires.lines in (
+            token.span.end,
+            next.left,
+            subst (λ p. AreLinesTo starts token.span.end p.lines) (sym w.passed-is)
+                (lines_on starts start token.span.end w.lines_to.result next.ends lines),
+            subst (λ p. AreNamesBefore names token.span.end p.names) (sym w.passed-is)
+                (names_on names start token.span.end w.names_before.result next.ends before),
+            subst (λ (l : List Hit). AllZip related (filter (λ (token : Token). is_ident token.kind) (take (i + 1) tokens)) l)
+                (sym (ap (λ (v : Vec Hit Global). v.items) w.hits-is ∙ w.in_ok-push.ensures.items))
+                (zip_passing related (λ token. is_ident token.kind) tokens i d c.loop-token.hits.items c.loop-token-test.true c.loop-token.invariant.4 _ (test ∙ w.if-eq.true)
+                (record {
+                  file_is = refl;
+                  offset_is = refl;
+                  line_is = line_counted source start w.lines_to.result
+                      (omega (arith, next.ends, order_within (drop (i + 1) tokens) token.span.end (length source) next.left))
+                      (subst (λ l. AreLinesTo l start w.lines_to.result) first lines)
+                      (subst (λ l. w.lines_to.result < length l → start < get_or l w.lines_to.result 0) first w.lines_to.ensures.no_more);
+                  kind_is = kind_reordered (names_of_file c.args.file.now) names start w.kind_at.result c.in_ok-names.ensures.same
+                      (subst (λ l. IsKindAt l start w.kind_at.result) w.as_slice-then-eq.ensures.value w.kind_at.ensures);
+                })),
+          )
+      | else-eq w ↦ (
+        token.span.end,
+        next.left,
+        subst (λ p. AreLinesTo starts token.span.end p.lines) (sym w.passed-is)
+            (lines_on starts from token.span.end c.loop-token.passed.lines (omega (arith, next.begins, next.ends)) c.loop-token.invariant.2),
+        subst (λ p. AreNamesBefore names token.span.end p.names) (sym w.passed-is)
+            (names_on names from token.span.end c.loop-token.passed.names (omega (arith, next.begins, next.ends)) c.loop-token.invariant.3),
+        subst (λ (l : List Hit). AllZip related (filter (λ (token : Token). is_ident token.kind) (take (i + 1) tokens)) l)
+            (sym (ap (λ (v : Vec Hit Global). v.items) w.hits-is))
+            (zip_passed related (λ token. is_ident token.kind) tokens i d c.loop-token.hits.items c.loop-token-test.true c.loop-token.invariant.4 (test ∙ w.if-eq.false)),
+      )
+    ]

@@ -1,0 +1,17 @@
+use Rattle.std.proofs.Common.{◌≡◌, ◌<◌, ◌≤◌, length, refl, inr, arith, get_or}
+use Rattle.std.proofs.lemmas.Bool.Decides.{nat_tests}
+use Rattle.std.proofs.lemmas.List.{get_or_default}
+use Rattle.ident_index.specs.Naming.{Name}
+use Rattle.ident_index.proofs.KindLemmas.{none_there}
+use Rattle.ident_index.proofs.hits.kind_at.Goals as goal
+use Rattle.ident_index.proofs.hits.kind_at.Goals.{else-before-names-via-then-before-names+else-names-before, else-before-names-via-else-before-names}
+
+pub returns-else-before-names : goal.returns-else-before-names
+returns-else-before-names c =
+    let beyond : (d : Name) → c.args.before < length c.args.names.now → c.args.offset < (get_or c.args.names.now c.args.before d).0 =
+    λ d h. elim c.else-before-names.branch [
+      | else-before-names-via-then-before-names+else-names-before w ↦
+          grind (arith, nat_tests, c.requires.no_more d h, get_or_default c.args.names.now c.args.before d)
+      | else-before-names-via-else-before-names w ↦ absurd (omega (arith, w.if-before-names.false))
+    ] in
+    inr (refl, λ other there. none_there c.args.names.now c.args.offset c.args.before c.requires.rising c.requires.so_many beyond other there)
