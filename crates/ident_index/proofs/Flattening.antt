@@ -6,7 +6,6 @@ use Rattle.go_ast.specs.declared.token.Span.{Span}
 use Rattle.go_ast.specs.declared.token.TokenRange.{TokenRange}
 use Rattle.go_ast.specs.declared.tree.TypeExpr.{TypeExpr}
 use Rattle.go_ast.specs.declared.tree.TypeExpr.TheVariants as t
-use Rattle.go_ast.specs.declared.tree.Param.{Param}
 use Rattle.go_ast.specs.declared.tree.Signature.{Signature, out-Signature}
 use Rattle.go_ast.specs.declared.tree.Field.{Field}
 use Rattle.go_ast.specs.declared.tree.Element.{Element}

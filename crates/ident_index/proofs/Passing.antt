@@ -1,6 +1,6 @@
 -- What a pass over the tokens of a source keeps: the lines and the names before its place, and the hits
 -- so far.
-use Rattle.std.proofs.Common.{◌≡◌, ◌⊎◌, ℕ, ◌+◌, ◌-◌, ◌<◌, ◌≤◌, zero, suc, Bool, true, false, cond, List, [], ◌∷◌, ◌++◌, length, get_or, take, drop, filter, refl, sym, ap, ◌∙◌, subst, arith, inl, inr, ⊎_elim, append-nil, Contains, IsPermutation}
+use Rattle.std.proofs.Common.{◌≡◌, ℕ, ◌+◌, ◌-◌, ◌<◌, ◌≤◌, zero, suc, Bool, true, false, cond, List, [], ◌∷◌, ◌++◌, length, get_or, take, drop, filter, refl, sym, ap, ◌∙◌, subst, arith, inl, inr, append-nil, IsPermutation}
 use Rattle.std.specs.Prelude.{◌==◌, if◌then◌else◌}
 use Rattle.std.specs.List.{AllZip}
 use Rattle.std.proofs.lemmas.List.{drop_more}
@@ -16,7 +16,7 @@ use Rattle.go_ast.specs.Tokens.{is_ident}
 use Rattle.go_ast.specs.Characters.{newline}
 use Rattle.go_ast.specs.Position.{line_of, line_starts, offsets_after_newlines}
 use Rattle.go_scanner.specs.Answers.{AreInOrder}
-use Rattle.go_scanner.proofs.Positions.{AreLineStarts-line_starts, position_is}
+use Rattle.go_scanner.proofs.Positions.{position_is}
 use Rattle.ident_index.specs.declared.hit.HitKind.{HitKind}
 use Rattle.ident_index.specs.Hits.{IsKindAt}
 use Rattle.ident_index.specs.Naming.{Name}

@@ -2,10 +2,9 @@
 -- kind: a case for each alternative of the grammar (The Go Programming Language Specification,
 -- "Declarations and scope"). Names in expressions and bodies are in no tree. Public clauses cite
 -- these.
-use Rattle.std.specs.Prelude.{◌≡◌, ◌⊎◌, ℕ, Bool, List, [], ◌∷◌, ◌++◌, Option, Some, None, map, filter, Contains}
-use Rattle.std.specs.List.{AllZip, flat_map}
+use Rattle.std.specs.Prelude.{ℕ, List, [], ◌∷◌, ◌++◌, Option, Some, None, map}
+use Rattle.std.specs.List.{flat_map}
 use Rattle.go_ast.specs.declared.token.Span.{Span}
-use Rattle.go_ast.specs.declared.token.Token.{Token}
 use Rattle.go_ast.specs.declared.tree.TypeExpr.{TypeExpr}
 use Rattle.go_ast.specs.declared.tree.Param.{Param}
 use Rattle.go_ast.specs.declared.tree.Signature.{Signature}

@@ -1,11 +1,9 @@
-use Rattle.std.proofs.Common.{◌≡◌, ◌≤◌, ◌+◌, ℕ, Fits, w32, length, arith, ap, sym, subst, ◌∙◌, ◌<◌, List, drop, take, filter, get_or, refl, Vec, Global}
+use Rattle.std.proofs.Common.{◌≡◌, ◌+◌, length, arith, ap, sym, subst, ◌∙◌, ◌<◌, List, drop, take, filter, get_or, refl, Vec, Global}
 use Rattle.std.specs.List.{AllZip}
 use Rattle.go_ast.specs.declared.token.Token.{Token}
-use Rattle.go_ast.specs.declared.token.Span.{Span}
 use Rattle.go_ast.specs.declared.token.TokenKind.TheVariants.{Ident}
 use Rattle.go_ast.specs.Position.{line_starts}
 use Rattle.go_ast.specs.Tokens.{is_ident}
-use Rattle.go_scanner.specs.Answers.{AreInOrder}
 use Rattle.ident_index.specs.Hits.{IsHitOf, IsKindAt}
 use Rattle.ident_index.specs.Naming.{names_of_file}
 use Rattle.ident_index.specs.declared.hit.Hit.{Hit}

@@ -1,7 +1,7 @@
-use Rattle.std.proofs.Common.{rules, ◌≡◌, ◌++◌, List, sym, ap, ◌∙◌}
+use Rattle.std.proofs.Common.{rules, ◌≡◌, ◌++◌, sym, ap, ◌∙◌}
 use Rattle.std.specs.List.{flat_map}
 use Rattle.go_ast.specs.declared.tree.TypeExpr.{TypeExpr}
-use Rattle.ident_index.specs.Naming.{Name, names_of_element, names_of_field, names_of_param, names_of_signature, names_of_term, names_of_type}
+use Rattle.ident_index.specs.Naming.{names_of_element, names_of_field, names_of_signature, names_of_term, names_of_type}
 use Rattle.ident_index.proofs.Flattening.{added, added_twice, names_of-Interface, names_of-Map, names_of-Name, names_of-Struct, names_of-Terms, names_of-signature}
 use Rattle.ident_index.proofs.names.+declaring.Goals as goal
 
