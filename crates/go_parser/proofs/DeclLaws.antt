@@ -1,6 +1,6 @@
 -- Declarations: what is read is spelled so, what is spelled so is read, and a chunk spells at most
 -- one.
-use Rattle.std.proofs.Common.{◌≡◌, ◌∙◌, ap, sym, refl, subst, ℕ, zero, suc, Bool, true, false}
+use Rattle.std.proofs.Common.{◌≡◌, ◌≢◌, ◌∙◌, ap, sym, refl, subst, ℕ, zero, suc, Bool, true, false}
 use Rattle.std.proofs.Common.{List, [], ◌∷◌, ◌++◌, ◌-◌, drop, Option, Some, None, ⊎_elim, ◌⊎◌, inl, inr}
 use Rattle.std.proofs.Common.{arith}
 use Rattle.std.proofs.lemmas.Grind.{common_steps}
@@ -58,7 +58,7 @@ no-later d [] o inner is n k =
 no-later d (w ∷ front) o inner is n k = no-later (depth_after d w.mark) front o inner is n.1 k
 
 -- so the last bracket with only what nests after it is one
-one-opening : (front1 front2 : List Word) (o1 o2 : Word) (inner1 inner2 : List Word)
+pub one-opening : (front1 front2 : List Word) (o1 o2 : Word) (inner1 inner2 : List Word)
     → opens o1.mark ≡ true → opens o2.mark ≡ true → Nests 0 inner1 → Nests 0 inner2
     → front1 ++ o1 ∷ inner1 ≡ front2 ++ o2 ∷ inner2
     → (front1 ≡ front2) × (o1 ≡ o2) × (inner1 ≡ inner2)
@@ -75,7 +75,7 @@ one-opening (w ∷ front1) (v ∷ front2) o1 o2 inner1 inner2 p q n k e =
     let rest = one-opening front1 front2 o1 o2 inner1 inner2 p q n k others in
     (cc (first, rest.0), rest.1, rest.2)
 
-snoc-same : (xs ys : List Word) (c d : Word) → xs ++ c ∷ [] ≡ ys ++ d ∷ [] → (xs ≡ ys) × (c ≡ d)
+pub snoc-same : (xs ys : List Word) (c d : Word) → xs ++ c ∷ [] ≡ ys ++ d ∷ [] → (xs ≡ ys) × (c ≡ d)
 snoc-same [] [] c d e = (refl, cc)
 snoc-same [] (y ∷ []) c d e = absurd (cc)
 snoc-same [] (y ∷ z ∷ ys) c d e = absurd (cc)
@@ -88,7 +88,7 @@ snoc-same (x ∷ xs) (y ∷ ys) c d e =
     (cc (first, rest.0), rest.1)
 
 -- the words before a body, its brace and what it encloses, and the closing brace
-apart : (front : List Word) (before o : Word) (inner : List Word) (c : Word)
+pub apart : (front : List Word) (before o : Word) (inner : List Word) (c : Word)
     → front ++ before ∷ o ∷ inner ++ c ∷ [] ≡ ((front ++ before ∷ []) ++ o ∷ inner) ++ c ∷ []
 apart front before o inner c = grind (arith, common_steps)
 
@@ -124,14 +124,14 @@ body-begins _ _ _ w ws (g.braces [] before o inner c t p q n) e =
 body-begins _ _ _ w ws (g.braces (v ∷ vs) before o inner c t p q n) e =
     let first : v ≡ w = cc in (vs ++ before ∷ [], cc first)
 
-precedes-begins : (us front : List Word) (body : Option TokenRange) (w : Word) (ws : List Word)
+pub precedes-begins : (us front : List Word) (body : Option TokenRange) (w : Word) (ws : List Word)
     → Precedes us front body → us ≡ w ∷ ws → (vs : List Word) × (front ≡ w ∷ vs)
 precedes-begins us _ _ w ws (g.with_body {front = front} {tokens = tokens} b) e =
     body-begins us front tokens w ws b e
 precedes-begins us _ _ w ws (g.without_body none) e = (ws, e)
 
 keyword-sound : (mark : Mark) (w : Word) (ws front : List Word) (body : Option TokenRange)
-    (x : Decl) → w.mark ≡ mark → Precedes (w ∷ ws) front body
+    (x : Decl) → w.mark ≡ mark → (mark ≡ m.Func → Precedes (w ∷ ws) front body)
     → read_by_keyword mark (range_of w ws) ws front body ≡ Some x → IsDecl (w ∷ ws) x
 keyword-sound m.Import w ws front body x is p e =
     let read = map_some decls.Import (read_group read_import_spec (range_of w ws) ws) x e in
@@ -153,22 +153,22 @@ keyword-sound m.Type w ws front body x is p e =
     subst (IsDecl (w ∷ ws)) read.2
     (g.types (group-sound read_type_spec IsTypeSpec type_spec-sound m.Type w ws read.0 is read.1))
 keyword-sound m.Func w ws front body x is p e =
-    let begun = precedes-begins (w ∷ ws) front body w ws p refl in
+    let begun = precedes-begins (w ∷ ws) front body w ws (p refl) refl in
     let fact = subst (λ us. (decls.Func <$> read_function (range_of w ws) body (drop 1 us)) ≡ Some x)
     begun.1 e in
     let read = map_some decls.Func (read_function (range_of w ws) body begun.0) x fact in
     subst (IsDecl (w ∷ ws)) read.2
-    (g.func w p
+    (g.func w (p refl)
     (subst (λ us. IsFunction (range_of w ws) body us read.0) (sym begun.1)
     (function-sound (range_of w ws) body w begun.0 read.0 is read.1)))
 keyword-sound _ w ws front body x is p e = absurd (cc)
 
--- what is read is spelled so
-pub decl-sound : (ws front : List Word) (body : Option TokenRange) (x : Decl)
-    → Precedes ws front body → read_decl ws front body ≡ Some x → IsDecl ws x
+-- what is read is spelled so; what stands before a body counts for functions alone
+pub decl-sound : (w : Word) (ws front : List Word) (body : Option TokenRange) (x : Decl)
+    → (w.mark ≡ m.Func → Precedes (w ∷ ws) front body) → read_decl (w ∷ ws) front body ≡ Some x
+    → IsDecl (w ∷ ws) x
 unfolding read_decl
-decl-sound [] front body x p e = absurd (cc)
-decl-sound (w ∷ ws) front body x p e = keyword-sound w.mark w ws front body x refl p e
+decl-sound w ws front body x p e = keyword-sound w.mark w ws front body x refl p e
 
 -- by the first word's mark
 at-keyword : (w : Word) (ws front : List Word) (body : Option TokenRange) (x : Decl) (mark : Mark)
@@ -200,7 +200,8 @@ function-begins tokens body _ _ (g.method word name {ws} is brackets one r is_na
 pub decl-either : (ws : List Word) (x : Decl) → IsDecl ws x
     → ((front : List Word) (body : Option TokenRange) → read_decl ws front body ≡ Some x)
     ⊎ ((front : List Word) × (body : Option TokenRange) × Precedes ws front body
-    × (read_decl ws front body ≡ Some x))
+    × (read_decl ws front body ≡ Some x)
+    × ((w : Word) (us : List Word) → ws ≡ w ∷ us → w.mark ≡ m.Func))
 decl-either _ _ (g.imports {ws} {specs} s) = inl (λ front body.
     let begun = group-begins IsImportSpec m.Import ws specs s in
     let read = group-complete read_import_spec IsImportSpec import-complete import-alone m.Import
@@ -236,13 +237,17 @@ decl-either _ _ (g.func w {ws} {front} {body} {f} p s) = inr (
   body,
   p,
   (let begun = precedes-begins (w ∷ ws) front body w ws p refl in
+  let first = function-begins (range_of w ws) body front f s in
+  let is : w.mark ≡ m.Func = cc (begun.1, first.2, first.3) in
+  let read = function-complete (range_of w ws) body w begun.0 f
+  (subst (λ us. IsFunction (range_of w ws) body us f) begun.1 s) in
+  at-keyword w ws front body (decls.Func f) m.Func is
+  (subst (λ us. (decls.Func <$> read_function (range_of w ws) body (drop 1 us))
+  ≡ Some (decls.Func f)) (sym begun.1) (ap (λ o. decls.Func <$> o) read))),
+  λ v vs e.
+      let begun = precedes-begins (w ∷ ws) front body w ws p refl in
       let first = function-begins (range_of w ws) body front f s in
-      let is : w.mark ≡ m.Func = cc (begun.1, first.2, first.3) in
-      let read = function-complete (range_of w ws) body w begun.0 f
-      (subst (λ us. IsFunction (range_of w ws) body us f) begun.1 s) in
-      at-keyword w ws front body (decls.Func f) m.Func is
-      (subst (λ us. (decls.Func <$> read_function (range_of w ws) body (drop 1 us))
-      ≡ Some (decls.Func f)) (sym begun.1) (ap (λ o. decls.Func <$> o) read))),
+      cc (begun.1, first.2, first.3, e),
 )
 
 pub decl-complete : (ws front : List Word) (body : Option TokenRange) (x : Decl)
@@ -253,6 +258,14 @@ decl-complete ws front body x p d = ⊎_elim
     subst (λ b. read_decl ws front b ≡ Some x) same.1
     (subst (λ us. read_decl ws us one.1 ≡ Some x) same.0 one.3))
     (decl-either ws x d)
+
+pub decl-read : (w : Word) (ws front : List Word) (body : Option TokenRange) (x : Decl)
+    → (w.mark ≡ m.Func → Precedes (w ∷ ws) front body) → IsDecl (w ∷ ws) x
+    → read_decl (w ∷ ws) front body ≡ Some x
+decl-read w ws front body x p d = ⊎_elim
+    (λ all. all front body)
+    (λ one. decl-complete (w ∷ ws) front body x (p (one.4 w ws refl)) d)
+    (decl-either (w ∷ ws) x d)
 
 -- a chunk spells at most one declaration
 pub one-decl : (ws : List Word) (x y : Decl) → IsDecl ws x → IsDecl ws y → x ≡ y

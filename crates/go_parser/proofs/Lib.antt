@@ -1,13 +1,21 @@
-mod Standings
-mod Steps
-mod Segments
-mod PlainTokens
+mod Bodies
 pub mod BracketLaws
 mod Choices
+mod ChunkDecls
+mod Clauses
 mod DeclLaws
+mod DeclLists
+mod FileChunks
+mod FileFaults
 mod FileLaws
 mod FunctionLaws
 mod GroupLaws
+mod PlainTokens
+mod Segments
+mod Standings
+mod Steps
+mod TokenCounts
 mod TypeSpecLaws
 mod TypedNames
 mod ValueLaws
+mod WordRanges
