@@ -14,7 +14,7 @@ use Rattle.go_parser.specs.declared.chunk.Chunk.{Chunk}
 use Rattle.go_parser.specs.declared.declarations.Declared.TheVariants as declared
 use Rattle.go_parser.specs.Parsing.{IsDeclared, IsInPlace, words_in}
 use Rattle.go_parser.proofs.DeclLaws.{one-decl}
-use Rattle.go_parser.proofs.FileLaws.{decls-one}
+use Rattle.go_parser.proofs.OneFile.{decls-one}
 use Rattle.type_parser.proofs.GrammarLaws.{some-is}
 
 abbrev pub is_other : Decl → Bool

@@ -50,7 +50,10 @@ pieces-few mark depth front (w ∷ ws) = go (depth == 0 && same_mark w.mark mark
 
 chunks-few : (ws : List Word) → length (chunks ws) ≤ length ws
 unfolding chunks pieces
-chunks-few ws = pieces-few m.Semi 0 [] ws
+chunks-few ws =
+    let all = pieces-few m.Semi 0 [] ws in
+    let few : length (filter has_words (pieces_from m.Semi 0 [] ws)) ≤ length ws =
+    omega (arith, all) in few
 
 take-one : (ts : List Token) (a : ℕ) (d : Token) → a < length ts
     → take 1 (drop a ts) ≡ get_or ts a d ∷ []

@@ -1,15 +1,17 @@
 mod Bodies
-pub mod BracketLaws
+mod BracketLaws
 mod Choices
 mod ChunkDecls
 mod Clauses
 mod DeclLaws
 mod DeclLists
+mod FileAnswers
 mod FileChunks
 mod FileFaults
-mod FileLaws
+pub mod FileLaws
 mod FunctionLaws
 mod GroupLaws
+mod OneFile
 mod PlainTokens
 mod Segments
 mod Standings

@@ -1,0 +1,31 @@
+//! The files that tokens spell: chunks between semicolons, and their declarations (Go
+//! specification, "Source file organization", "Declarations and scope").
+#![tactic(auto)]
+
+mod body;
+mod chunk;
+#[cfg(test)]
+mod chunk_tests;
+mod chunks;
+mod clause;
+mod cutter;
+mod declaration;
+mod declarations;
+mod function;
+mod group;
+mod import;
+mod laws;
+mod nesting;
+mod parse;
+mod read;
+mod receiver;
+#[cfg(test)]
+mod tests;
+mod type_spec;
+mod value;
+
+pub use chunk::{Chunk, Cut};
+pub use chunks::chunks_of;
+pub use laws::{declaration_spelled_once, file_spelled_once};
+pub use nesting::one_unbalanced_bracket;
+pub use parse::parse_file;

@@ -1,11 +1,14 @@
 //! The public call.
 
-ghost use Rattle.std.specs.Prelude.{◌≡◌, ◌^◌, ◌<◌, ◌≤◌, All, IfErr, IfOk, length};
+ghost use Rattle.std.specs.Prelude.{◌≡◌, ◌^◌, ◌<◌, ◌≤◌, All, IfErr, IfOk, MatchResult, length};
+ghost use Rattle.go_ast.specs.declared.declaration.File.{File};
+ghost use Rattle.go_ast.specs.declared.fault.Fault.{Fault};
 ghost use Rattle.go_ast.specs.declared.fault.Refused.TheVariants as refusals;
 ghost use Rattle.go_ast.specs.Files.{FileFault, SpellsFile};
 ghost use Rattle.go_ast.specs.Position.{line_of};
+ghost use Rattle.go_ast.specs.Reading.{Reads};
 ghost use Rattle.go_ast.specs.Tokens.{IsWithin};
-ghost use Rattle.go_parser.specs.Answers.{RefusedFor};
+ghost use Rattle.go_parser.specs.Answers.{IsRefusedAs, RefusedFor};
 ghost use Rattle.go_parser.specs.ChunkFacts.{AreChunks, IsChunk};
 ghost use Rattle.go_parser.specs.Parsing.{IsBadAt, IsParsed, words_in};
 
@@ -13,7 +16,7 @@ use crate::chunk::{Chunk, Cut};
 use crate::chunks::chunks_of;
 use crate::clause::clause_in;
 use crate::declarations::{Declared, declarations};
-use go_ast::{Fault, File, MAX_SOURCE_BYTES, Mem, NoMemory, Refused, Token};
+use go_ast::{Fault, File, MAX_SOURCE_BYTES, Mem, NoMemory, Refused, Scanned, Token};
 use std::alloc::Global;
 
 /// What the chunks of a file are.
@@ -94,4 +97,32 @@ fn file_in(alloc: Global, source: &[u8], tokens: &[Token]) -> Result<File, Refus
         Parsed::NoClause => Err(Refused::Fault(Fault::NoPackageClause)),
         Parsed::Bad(at) => Err(Refused::Fault(bad_declaration(source, tokens, &chunks, at))),
     }
+}
+
+/// The file that the tokens of a source spell (Go specification, "Source file organization").
+///
+/// The condition is that the tokens and comments are those of the source, which has at most
+/// [`MAX_SOURCE_BYTES`] bytes, as a scan gives them. The answer is `Refused::Fault` exactly where
+/// the tokens spell no file: with `Unbalanced` and a byte offset where brackets don't nest, that of
+/// the first closing bracket that doesn't match the innermost open one, or else of the first that is
+/// left open; else with `NoPackageClause` where the first chunk between semicolons is no package
+/// clause; else with `BadDeclaration`, the number from 1 of the first chunk that is no declaration
+/// in its place, and the line of its first token. It is `Refused::NoMemory` where an allocation was
+/// refused.
+pub fn parse_file(alloc: Global, source: &[u8], scanned: &Scanned) -> Result<File, Refused>
+    requires size { length source.now ≤ MAX_SOURCE_BYTES }
+    requires read { Reads source.now scanned.now.tokens scanned.now.comments }
+
+    ensures file { IfOk result (λ file. SpellsFile source.now scanned.now.tokens file) }
+    ensures fault { IfErr result (RefusedFor source.now scanned.now.tokens) }
+
+    // Tokens that spell a file are read so, unless memory runs out.
+    ensures found { (file : File) → SpellsFile source.now scanned.now.tokens file
+        → MatchResult result (λ found. found ≡ file) (λ refused. refused ≡ refusals.NoMemory) }
+
+    // Tokens that have a fault are refused for it, unless memory runs out.
+    ensures refused { (fault : Fault) → FileFault source.now scanned.now.tokens fault
+        → MatchResult result (λ file. ⊥) (λ refused. IsRefusedAs fault refused) }
+{
+    file_in(alloc, source, scanned.tokens.as_slice())
 }

@@ -1,4 +1,4 @@
-use Rattle.go_parser.proofs.FileLaws.{one-file}
+use Rattle.go_parser.proofs.OneFile.{one-file}
 use Rattle.go_parser.proofs.laws.file_spelled_once.Goals as goal
 
 pub returns : goal.returns
