@@ -24,7 +24,7 @@ Chunks = List (List Word)
 -- the first of chunks that are declarations are declarations
 first-decls : (cs rest : Chunks) (ds : List Decl) → AreDecls (cs ++ rest) ds
     → (es : List Decl) × AreDecls cs es
-first-decls cs [] ds a = (ds, subst (λ us. AreDecls us ds) append-nil a)
+first-decls cs [] ds a = (ds, subst (λ us. AreDecls us ds) (append-nil cs) a)
 first-decls cs (c ∷ rest) ds a =
     let more = first-decls (cs ++ c ∷ []) rest ds
     (subst (λ us. AreDecls us ds) (sym (append_assoc cs (c ∷ []) rest)) a) in
@@ -125,4 +125,7 @@ module _ (source : List ℕ) where
       let same = bad-once cs cs n k p.0 q.0 p.2 q.2 refl in
       let line : l ≡ j = sym p.3 ∙ ap (λ w. line_of source w.span.start) same.1 ∙ q.3 in
       cc (same.0, line)
+  one-file-fault tokens (faults.Unbalanced a) _ p q = absurd q
+  one-file-fault tokens faults.NoPackageClause _ p q = absurd q
+  one-file-fault tokens (faults.BadDeclaration n l) _ p q = absurd q
   one-file-fault tokens _ _ p q = absurd p
