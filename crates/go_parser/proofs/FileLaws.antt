@@ -2,6 +2,8 @@
 -- both.
 pub use Rattle.go_parser.proofs.BracketLaws.{nested-or-not}
 pub use Rattle.go_parser.proofs.OneFile.{one-file}
+pub use Rattle.go_parser.proofs.Decisions.{spelled_or_not}
+pub use Rattle.go_parser.proofs.FileCases.{file-or-fault}
 use Rattle.std.proofs.Common.{◌≡◌, ◌∙◌, ap, sym, refl, subst, ℕ, ◌+◌, List, [], ◌∷◌, ◌++◌, length}
 use Rattle.std.proofs.Common.{append_assoc, append-nil, ◌⊎◌, inl, inr, ⊎_elim}
 use Rattle.go_ast.specs.declared.declaration.Decl.{Decl}

@@ -3,9 +3,11 @@ mod BracketLaws
 mod Choices
 mod ChunkDecls
 mod Clauses
+mod Decisions
 mod DeclLaws
 mod DeclLists
 mod FileAnswers
+mod FileCases
 mod FileChunks
 mod FileFaults
 pub mod FileLaws

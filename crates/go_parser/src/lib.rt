@@ -26,6 +26,6 @@ mod value;
 
 pub use chunk::{Chunk, Cut};
 pub use chunks::chunks_of;
-pub use laws::{declaration_spelled_once, file_spelled_once};
+pub use laws::{declaration_spelled_once, one_file_or_fault};
 pub use nesting::one_unbalanced_bracket;
 pub use parse::parse_file;
