@@ -11,6 +11,8 @@ mod clause;
 mod cutter;
 mod declaration;
 mod declarations;
+#[cfg(test)]
+mod file_tests;
 mod function;
 mod group;
 mod import;
