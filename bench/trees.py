@@ -1,5 +1,6 @@
 """What the benchmarks share: the trees that are scanned, the program, its peers, and how a run is timed."""
 import os
+import re
 import shutil
 import subprocess
 import tempfile
@@ -7,14 +8,15 @@ import time
 
 HERE = os.path.dirname(os.path.abspath(__file__))
 PROGRAM = os.path.join(HERE, "..", "crates", "godoc", "out", "godoc")
+NAME = "nobody_has_this_name"
 GO_SOURCES = "/usr/share/go-1.19/src"
-FILES, LINES = 160, 8000
+FILES, FORMS_A_FILE = 160, 6000
 WORDS = "a buffer count err field index key length name next offset reader result size state value writer".split()
 FORMS = [
     "func {0}{3}({1} int, {2} string) error {{\n\treturn {1}.{2}({3}) + {0}\n}}\n",
-    "\tif {0} != nil && {1}.{2} <= {3} {{ return {0}, \"{1} of {2}\" }} // {3} of {0}\n",
-    "\tfor {0} := 0; {0} < len({1}); {0}++ {{ {2}[{0}] += {3} }}\n",
-    "\t{0}, {1} := {2}.{1}({3}, \"{0}\"), {3}\n",
+    "func {2}() (int, string) {{\n\tif {0} != nil && {1}.{2} <= {3} {{ return {0}, \"{1} of {2}\" }} // {3} of {0}\n\treturn 0, {1}\n}}\n",
+    "func ({0} *{1}) {2}({3} []int) {{\n\tfor {0} := 0; {0} < len({1}); {0}++ {{ {2}[{0}] += {3} }}\n}}\n",
+    "type {0}{2} struct {{\n\t{0}, {1} map[string]{2} `{3}`\n\t*{3} // {0} of {1}\n}}\n",
     "// {0} is the {1} of {2}, and {3} is none.\nvar {0}{3} = {1}({2}, 10)\n",
 ]
 
@@ -27,7 +29,7 @@ def make_tree(root, files=FILES):
         os.makedirs(folder, exist_ok=True)
         with open(os.path.join(folder, "f%03d.go" % number), "w") as out:
             out.write("package p%02d\n\n" % (number % 10))
-            for _ in range(LINES):
+            for _ in range(FORMS_A_FILE):
                 chosen = []
                 for _ in range(5):
                     state = (state * 1103515245 + 12345) % 2147483648
@@ -54,13 +56,13 @@ def size_of(root):
     return total, largest
 
 
-def build_goscan(work):
-    """Builds Go's own scanner as a program in a folder: its path, or None where Go is missing."""
+def build_peer(work, peer):
+    """Builds a program of Go's own packages, a folder beside this file: its path, or None where Go is missing."""
     if not shutil.which("go"):
         return None
-    program = os.path.join(work, "goscan")
+    program = os.path.join(work, peer)
     environment = dict(os.environ, GOCACHE=os.path.join(work, "cache"), GO111MODULE="off")
-    source = os.path.join(HERE, "goscan", "main.go")
+    source = os.path.join(HERE, peer, "main.go")
     return None if subprocess.call(["go", "build", "-o", program, source], env=environment) else program
 
 
@@ -94,3 +96,25 @@ def best(words, environment=None, runs=3):
             out.seek(0)
             lines = sum(piece.count(b"\n") for piece in iter(lambda: out.read(1 << 16), b""))
     return seconds, lines
+
+
+def instructions(root, function=None):
+    """How many instructions the program takes for a tree, all or those of a function and what it calls; or None
+    where valgrind is missing."""
+    if not shutil.which("valgrind"):
+        return None
+    words = ["valgrind", "--tool=callgrind", "--callgrind-out-file=/dev/null"]
+    words += ["--toggle-collect=" + function] if function else []
+    told = subprocess.run(words + [PROGRAM, root, "find", NAME], stdin=subprocess.DEVNULL, capture_output=True, text=True).stderr
+    found = re.search(r"refs:\s*([0-9,]+)", told)
+    return int(found.group(1).replace(",", "")) if found else None
+
+
+def peak_of(words, environment):
+    """The peak memory of a run, as GNU time tells it, or "unknown" where that is missing."""
+    if not os.path.exists("/usr/bin/time"):
+        return "unknown"
+    with tempfile.NamedTemporaryFile() as told:
+        timed = ["/usr/bin/time", "-f", "%M", "-o", told.name] + words
+        subprocess.call(timed, stdout=subprocess.DEVNULL, stderr=subprocess.DEVNULL, stdin=subprocess.DEVNULL, env=environment)
+        return "%.1f MB" % (int(told.read().split()[-1]) * 1024 / 1e6)

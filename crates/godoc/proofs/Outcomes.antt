@@ -3,8 +3,13 @@ use Rattle.std.proofs.Common.{◌≡◌, ℕ, ◌+◌, ◌<◌, ◌≤◌, ◌�
 use Rattle.std.specs.Prelude.{Option, Some, None, All, IsSome, Result, Ok, Err, OnErr, OnOk}
 use Rattle.std.specs.Option.{ForSome}
 use Rattle.std.proofs.Common.{take-append-drop, drop-cons, add-one}
-use Rattle.go_scanner.specs.Answers.{IsRead}
-use Rattle.go_scanner.proofs.OneReading.{not_both, read_or_faulty}
+use Rattle.go_ast.specs.declared.declaration.File.{File}
+use Rattle.go_ast.specs.declared.token.Token.{Token}
+use Rattle.go_ast.specs.declared.token.Comment.{Comment}
+use Rattle.go_ast.specs.Files.{SpellsFile}
+use Rattle.go_ast.specs.Reading.{Reads}
+use Rattle.go_parser.proofs.FileLaws.{spelled_or_not}
+use Rattle.go_scanner.proofs.OneReading.{not_both, one_reading, read_or_faulty}
 use Rattle.link_io.specs.Streams.{Adds}
 use Rattle.tree_io.specs.declared.tree.Entry.{Entry}
 use Rattle.tree_io.specs.declared.tree.Entry.TheVariants.{Bytes, Large, Unread}
@@ -15,15 +20,28 @@ use Rattle.tree_io.specs.Sources.{Contents, Sources, bytes_at}
 use Rattle.tree_io.proofs.Laws.{IsReadSoFar-append, IsReadSoFar-known, IsReadSoFar-nothing, IsScanned-read}
 use Rattle.godoc.specs.declared.status.Stop.{Stop}
 use Rattle.godoc.specs.declared.status.Stop.TheVariants as stops
-use Rattle.godoc.specs.Find.{FindsAt, IsFindText, hit_lines}
+use Rattle.godoc.specs.Find.{FindsAt, IsFindText, IsGoFile, hit_lines}
 use Rattle.godoc.specs.Outcome.{FindsFrom, WritesFound, WritesFront}
 use Rattle.godoc.specs.Steps.{FindsSome, WritesPart, WritesSome}
 
--- each source has a reading or has none
-read_or_not : (bytes : List ℕ) → IsRead bytes ⊎ (IsRead bytes → ⊥)
-read_or_not bytes = ⊎_elim
-    (λ read. inl read)
-    (λ faulty. inr (λ read. not_both bytes read.0 read.1 faulty.0 read.2 faulty.1))
+-- tokens of a reading spell a file, or the bytes are none
+file_of_tokens : (bytes : List ℕ) (tokens : List Token) (comments : List Comment)
+    → Reads bytes tokens comments
+    → ((f : File) × SpellsFile bytes tokens f) ⊎ ((f : File) → SpellsFile bytes tokens f → ⊥)
+    → ((ts : List Token) × IsGoFile bytes ts) ⊎ ((ts : List Token) → IsGoFile bytes ts → ⊥)
+file_of_tokens bytes tokens comments read (inl spelled) =
+    inl (tokens, record { comments = comments; file = spelled.0; read = read; spelled = spelled.1 })
+file_of_tokens bytes tokens comments read (inr none) = inr (λ ts go_file.
+    let same = one_reading bytes tokens ts comments go_file.comments read go_file.read in
+    none go_file.file (rw (sym same.0) at go_file.spelled))
+
+-- the bytes are a Go file, or they are none
+go_file_or_not : (bytes : List ℕ)
+    → ((tokens : List Token) × IsGoFile bytes tokens) ⊎ ((tokens : List Token) → IsGoFile bytes tokens → ⊥)
+go_file_or_not bytes = ⊎_elim
+    (λ read. file_of_tokens bytes read.0 read.1 read.2 (spelled_or_not bytes read.0))
+    (λ faulty. inr (λ tokens go_file.
+    not_both bytes tokens go_file.comments faulty.0 go_file.read faulty.1))
     (read_or_faulty bytes)
 
 -- the text of some sources, and then that of more
@@ -64,9 +82,9 @@ FindsSome-one name path entry scans a b lines read found = record {
 -- the lines of an entry are there
 lines_of : (name path : List ℕ) (entry : Entry) → (lines : List ℕ) × FindsAt name path entry lines
 lines_of name path (Bytes bytes) = ⊎_elim
-    (λ read. (hit_lines name path bytes read.0, inl (read.0, read.1, read.2, refl)))
+    (λ file. (hit_lines name path bytes file.0, inl (file.0, file.1, refl)))
     (λ none. ([], inr (none, refl)))
-    (read_or_not bytes)
+    (go_file_or_not bytes)
 lines_of name path Large = ([], refl)
 lines_of name path Unread = ([], refl)
 

@@ -3,12 +3,13 @@
 use Rattle.std.specs.Prelude.{◌≡◌, ℕ, Bool, ◌&&◌, ◌⊎◌, List, [], ◌∷◌, ◌++◌, decimal, codes, if◌then◌else◌}
 use Rattle.std.specs.List.{flat_map}
 use Rattle.std.specs.Str.{bytes_eq}
+use Rattle.go_ast.specs.declared.declaration.File.{File}
 use Rattle.go_ast.specs.declared.token.Token.{Token}
 use Rattle.go_ast.specs.declared.token.Comment.{Comment}
+use Rattle.go_ast.specs.Files.{SpellsFile}
 use Rattle.go_ast.specs.Position.{line_of, column_of}
 use Rattle.go_ast.specs.Reading.{Reads}
 use Rattle.go_ast.specs.Tokens.{is_ident, text_of}
-use Rattle.go_scanner.specs.Answers.{IsRead}
 use Rattle.tree_io.specs.declared.tree.Entry.{Entry}
 use Rattle.tree_io.specs.declared.tree.Entry.TheVariants.{Bytes}
 use Rattle.tree_io.specs.Sources.{Sources}
@@ -33,13 +34,19 @@ line_for name path bytes token = if is_hit name bytes token
 abbrev pub hit_lines : List ℕ → List ℕ → List ℕ → List Token → List ℕ
 hit_lines name path bytes tokens = flat_map (line_for name path bytes) tokens
 
--- these are the lines of a file with these bytes: those of its reading, and none where it has no
--- reading
+-- the bytes are read as these tokens, which spell a file
+pub record IsGoFile (bytes : List ℕ) (tokens : List Token) : Type 0 where
+  pub comments : List Comment
+  pub file : File
+  pub read : Reads bytes tokens comments
+  pub spelled : SpellsFile bytes tokens file
+
+-- these are the lines of a file with these bytes: those of its tokens, and none where the bytes are
+-- no Go file
 abbrev pub FindsIn : List ℕ → List ℕ → List ℕ → List ℕ → Type 0
 FindsIn name path bytes lines =
-    ((tokens : List Token) × (comments : List Comment) × Reads bytes tokens comments
-    × (lines ≡ hit_lines name path bytes tokens))
-    ⊎ ((IsRead bytes → ⊥) × (lines ≡ []))
+    ((tokens : List Token) × IsGoFile bytes tokens × (lines ≡ hit_lines name path bytes tokens))
+    ⊎ (((tokens : List Token) → IsGoFile bytes tokens → ⊥) × (lines ≡ []))
 
 -- the lines of one source: none where its bytes aren't there
 abbrev pub FindsAt : List ℕ → List ℕ → Entry → List ℕ → Type 0

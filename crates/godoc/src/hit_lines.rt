@@ -1,14 +1,17 @@
 //! The lines of one source in which a name stands.
 
-ghost use Rattle.std.specs.Prelude.{◌≡◌, ◌++◌, ◌≤◌, All, IfOk, OnOk, length, slice_range};
+ghost use Rattle.std.specs.Prelude.{◌≡◌, ◌++◌, ◌≤◌, All, IfOk, List, MatchOption, OnOk, length, slice_range};
+ghost use Rattle.std.specs.Option.{ForSome};
 ghost use Rattle.std.specs.Str.{bytes_eq};
+ghost use Rattle.go_ast.specs.declared.token.Token.{Token};
 ghost use Rattle.go_ast.specs.Position.{line_starts};
 ghost use Rattle.go_ast.specs.Tokens.{IsWithin};
 ghost use Rattle.tree_io.specs.Entries.{IsSmall};
 ghost use Rattle.tree_io.specs.declared.tree.TheConstants.{MAX_FILE_BYTES};
-ghost use Rattle.godoc.specs.Find.{FindsAt, FindsIn, hit_lines, is_hit, line_for, position_line};
+ghost use Rattle.godoc.specs.Find.{FindsAt, FindsIn, IsGoFile, hit_lines, is_hit, line_for, position_line};
 
-use go_ast::{Mem, NoMemory, Refused, Token, TokenKind};
+use go_ast::{Mem, NoMemory, Refused, Scanned, Token, TokenKind};
+use go_parser::parse_file;
 use go_scanner::{Position, position_of, scan};
 use std::alloc::Global;
 use text_out::Text;
@@ -79,13 +82,36 @@ fn token_lines(
     Ok(text.into_bytes())
 }
 
-/// The lines of a source: those of its reading, and none where it has no reading.
+/// The tokens of a source, where it is a Go file.
+fn scan_file(alloc: Global, source: &[u8]) -> Mem<Option<Scanned>>
+    requires { length source.now ≤ MAX_FILE_BYTES }
+    ensures file { IfOk result (λ found. MatchOption found
+        ((tokens : List Token) → IsGoFile source.now tokens → ⊥)
+        (λ scanned. IsGoFile source.now scanned.tokens)) }
+    ensures lines { IfOk result (λ found. ForSome found
+        (λ scanned. scanned.lines ≡ line_starts source.now)) }
+    ensures within { IfOk result (λ found. ForSome found
+        (λ scanned. All (IsWithin (length source.now)) scanned.tokens)) }
+{
+    let scanned = match scan(alloc, source) {
+        Ok(scanned) => scanned,
+        Err(Refused::Fault(_)) => return Ok(None),
+        Err(Refused::NoMemory) => return Err(NoMemory),
+    };
+    match parse_file(alloc, source, &scanned) {
+        Ok(_) => Ok(Some(scanned)),
+        Err(Refused::Fault(_)) => Ok(None),
+        Err(Refused::NoMemory) => Err(NoMemory),
+    }
+}
+
+/// The lines of a source: none where it is no Go file.
 fn source_lines(alloc: Global, name: &str, path: &str, source: &[u8]) -> Mem<Vec<u8>>
     requires { length source.now ≤ MAX_FILE_BYTES }
     ensures { IfOk result (λ lines. FindsIn name.now path.now source.now lines.items) }
 {
-    match scan(alloc, source) {
-        Ok(scanned) => token_lines(
+    match scan_file(alloc, source)? {
+        Some(scanned) => token_lines(
             alloc,
             name,
             path,
@@ -93,8 +119,7 @@ fn source_lines(alloc: Global, name: &str, path: &str, source: &[u8]) -> Mem<Vec
             scanned.lines.as_slice(),
             scanned.tokens.as_slice(),
         ),
-        Err(Refused::Fault(_)) => Ok(Vec::new(alloc)),
-        Err(Refused::NoMemory) => Err(NoMemory),
+        None => Ok(Vec::new(alloc)),
     }
 }
 

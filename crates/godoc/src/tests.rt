@@ -59,31 +59,48 @@ fn finds_identifiers_alone(rt: HostRuntime) -> Result<(), Fail> {
 #[test]
 fn finds_in_the_order_of_the_paths(rt: HostRuntime) -> Result<(), Fail> {
     let files: [(&str, &[u8]); 9] = [
-        ("b.go", b"p"),
-        ("a/c.go", b"p\r\n  p\n"),
-        ("vendor/v.go", b"p"),
-        ("testdata/t.go", b"p"),
-        (".x/x.go", b"p"),
-        ("_x/x.go", b"p"),
-        ("c.txt", b"p"),
-        ("faulty.go", b"p 08"),
-        ("a.go", b"\"p\" // p\np.p"),
+        ("b.go", b"package p"),
+        ("a/c.go", b"package p\r\nvar  p int\n"),
+        ("vendor/v.go", b"package p"),
+        ("testdata/t.go", b"package p"),
+        (".x/x.go", b"package p"),
+        ("_x/x.go", b"package p"),
+        ("c.txt", b"package p"),
+        ("faulty.go", b"package p; var _ = 08"),
+        ("a.go", b"package a; var _ = \"p\" // p\nvar _ = p.p"),
     ];
     let mut tree = tree_of(rt.alloc(), &files, &[])?;
     let (status, written) = run_on(&rt, rt.alloc(), &["find", "p"], &mut tree, 1, &[])?;
     assert_eq!(rt; status, Status::Done);
-    let wanted = b"a.go:2:1\na.go:2:3\na/c.go:1:1\na/c.go:2:3\nb.go:1:1\n";
+    let wanted = b"a.go:2:9\na.go:2:11\na/c.go:1:9\na/c.go:2:6\nb.go:1:9\n";
     assert_eq!(rt; written.as_slice(), wanted.as_slice());
     Ok(())
 }
 
 #[test]
+fn passes_over_what_spells_no_file(rt: HostRuntime) -> Result<(), Fail> {
+    let files: [(&str, &[u8]); 6] = [
+        ("a.go", b"x"),
+        ("b.go", b"package x\nfunc {\n}\n"),
+        ("c.go", b"package x; func x() { x("),
+        ("d.go", b"package x; var x = 1; import \"x\""),
+        ("e.go", b"package x; func x() { x( }}}"),
+        ("f.go", b"package f; func (x T) f() { x() }"),
+    ];
+    let mut tree = tree_of(rt.alloc(), &files, &[])?;
+    let (status, written) = run_on(&rt, rt.alloc(), &["find", "x"], &mut tree, 4096, &[])?;
+    assert_eq!(rt; status, Status::Done);
+    assert_eq!(rt; written.as_slice(), b"f.go:1:18\nf.go:1:29\n".as_slice());
+    Ok(())
+}
+
+#[test]
 fn passes_over_what_fails_to_be_read(rt: HostRuntime) -> Result<(), Fail> {
-    let files: [(&str, &[u8]); 2] = [("a.go", b"x"), ("b.go", b"x")];
+    let files: [(&str, &[u8]); 2] = [("a.go", b"package x"), ("b.go", b"package x")];
     let mut tree = tree_of(rt.alloc(), &files, &[3])?;
     let (status, written) = run_on(&rt, rt.alloc(), &["find", "x"], &mut tree, 4096, &[])?;
     assert_eq!(rt; status, Status::Done);
-    assert_eq!(rt; written.as_slice(), b"b.go:1:1\n".as_slice());
+    assert_eq!(rt; written.as_slice(), b"b.go:1:9\n".as_slice());
     Ok(())
 }
 
@@ -134,9 +151,9 @@ fn refuses_other_words(rt: HostRuntime) -> Result<(), Fail> {
 
 #[test]
 fn takes_an_underscore_for_a_name(rt: HostRuntime) -> Result<(), Fail> {
-    let mut tree = tree_of(rt.alloc(), &[("e.go", b"var _ = _x")], &[])?;
+    let mut tree = tree_of(rt.alloc(), &[("e.go", b"package e; var _ = _x")], &[])?;
     let (status, written) = run_on(&rt, rt.alloc(), &["find", "_"], &mut tree, 4096, &[])?;
     assert_eq!(rt; status, Status::Done);
-    assert_eq!(rt; written.as_slice(), b"e.go:1:5\n".as_slice());
+    assert_eq!(rt; written.as_slice(), b"e.go:1:16\n".as_slice());
     Ok(())
 }
