@@ -21,7 +21,8 @@ use Rattle.go_ast.specs.Files.{imports_come_first}
 use Rattle.go_ast.specs.Marks.{closes, same_mark, text_of}
 use Rattle.go_parser.specs.Reading.{read_decl}
 use Rattle.go_parser.proofs.BracketLaws.{nested-or-not, not-both}
-use Rattle.go_parser.proofs.DeclLaws.{decl-complete, decl-sound, one-decl, snoc-same}
+use Rattle.go_parser.proofs.DeclLaws.{decl-complete, decl-sound, snoc-same}
+use Rattle.go_parser.proofs.OneFile.{decls-one}
 use Rattle.type_parser.proofs.GrammarLaws.{differ_marks, marks_are}
 
 both : {A B : Type 0} → A ⊎ (A → ⊥) → B ⊎ (B → ⊥) → (A × B) ⊎ (A × B → ⊥)
@@ -78,8 +79,16 @@ braces-or-not before (o ∷ u ∷ us) = ⊎_elim
     (λ n. inr (λ b.
     let first : o ≡ b.0 = ap (λ vs. get_or vs 0 o) b.3 in
     let same = snoc-same last.0 b.1 last.1 b.2 (sym last.2 ∙ ap (drop 1) b.3) in
-    n (b.4, (ap (λ v. v.mark) first ∙ b.5, (ap (λ v. v.mark) same.1 ∙ b.6,
-    subst (Nests 0) (sym same.0) b.7)))))
+    n (
+      b.4,
+      (
+        ap (λ v. v.mark) first ∙ b.5,
+        (
+          ap (λ v. v.mark) same.1 ∙ b.6,
+          subst (Nests 0) (sym same.0) b.7,
+        ),
+      ),
+    )))
     (both (false-or-not (takes_braces before)) (both (mark-or-not o.mark m.OpenBrace)
     (both (mark-or-not last.1.mark m.CloseBrace) (nests-or-not 0 last.0))))
   where
@@ -113,9 +122,12 @@ neither w ws _ _ _ (g.braces [] before o inner c t p q n) e here there =
     let first : before ≡ w = ap (λ us. get_or us 0 w) e in
     here (o, inner, c, sym (ap (drop 1) e), ap takes_braces (sym first) ∙ t, p, q, n)
 neither w ws _ _ _ (g.braces (x ∷ front) before o inner c t p q n) e here there =
-    there (front ++ before ∷ [], range_of o (inner ++ c ∷ []),
-    subst (λ us. EndsInBody us (front ++ before ∷ []) (range_of o (inner ++ c ∷ [])))
-    (ap (drop 1) e) (g.braces front before o inner c t p q n))
+    there (
+      front ++ before ∷ [],
+      range_of o (inner ++ c ∷ []),
+      subst (λ us. EndsInBody us (front ++ before ∷ []) (range_of o (inner ++ c ∷ [])))
+          (ap (drop 1) e) (g.braces front before o inner c t p q n),
+    )
 
 body-or-not : (ws : List Word) → HaveBody ws ⊎ (HaveBody ws → ⊥)
 body-or-not [] = inr (λ b. not-empty [] b.0 b.1 b.2 refl)
@@ -160,16 +172,6 @@ each-or-not (c ∷ cs) = ⊎_elim
     (λ d. ⊎_elim (λ r. inl (d.0 ∷ r.0, (d.1, r.1))) (λ n. inr (not-rest c cs n)) (each-or-not cs))
     (λ n. inr (not-first c cs n)) (decl-or-not c)
 
-pub each-once : (cs : List (List Word)) (ds es : List Decl) → Each IsDecl cs ds → Each IsDecl cs es
-    → ds ≡ es
-each-once [] [] [] a b = refl
-each-once [] [] (e ∷ es) a b = absurd b
-each-once [] (d ∷ ds) es a b = absurd a
-each-once (c ∷ cs) [] es a b = absurd a
-each-once (c ∷ cs) (d ∷ ds) [] a b = absurd b
-each-once (c ∷ cs) (d ∷ ds) (e ∷ es) a b =
-    cc (one-decl c d e a.0 b.0, each-once cs ds es a.1 b.1)
-
 decls-or-not : (cs : List (List Word))
     → ((ds : List Decl) × AreDecls cs ds) ⊎ ((ds : List Decl) → AreDecls cs ds → ⊥)
 decls-or-not cs = ⊎_elim (λ d. go d.0 d.1 (imports_come_first d.0) refl)
@@ -179,7 +181,7 @@ decls-or-not cs = ⊎_elim (λ d. go d.0 d.1 (imports_come_first d.0) refl)
         → ((es : List Decl) × AreDecls cs es) ⊎ ((es : List Decl) → AreDecls cs es → ⊥)
     go ds each true is = inl (ds, (each, is))
     go ds each false is = inr (λ es a.
-        absurd (cc (ap imports_come_first (each-once cs ds es each a.0), is, a.1)))
+        absurd (cc (ap imports_come_first (decls-one cs ds es each a.0), is, a.1)))
 
 -- whether words are a package clause
 two-words : (source : List ℕ) (ws : List Word) (name : Span) → IsPackageClause source ws name
@@ -194,9 +196,13 @@ names-it : (source : List ℕ) (w v : Word) (ws : List Word) (name : Span)
     → IsPackageClause source ws name → ws ≡ w ∷ v ∷ [] → Names source w v
 names-it source w v _ _ (files.names_package word name a b c) e =
     let first : word ≡ w = ap (λ us. get_or us 0 w) e in
-    let second : name ≡ v = ap (λ us. get_or us 1 v) e in
-    (ap (λ u. u.mark) (sym first) ∙ a, (ap (λ u. u.mark) (sym second) ∙ b,
-    ap (λ u. bytes_eq (text_of source u.span) (codes "_")) (sym second) ∙ c))
+    let second : name ≡ v = ap (λ us. get_or us 1 v) e in (
+      ap (λ u. u.mark) (sym first) ∙ a,
+      (
+        ap (λ u. u.mark) (sym second) ∙ b,
+        ap (λ u. bytes_eq (text_of source u.span) (codes "_")) (sym second) ∙ c,
+      ),
+    )
 
 clause-or-not : (source : List ℕ) (ws : List Word)
     → ((name : Span) × IsPackageClause source ws name)
