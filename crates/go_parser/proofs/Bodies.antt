@@ -77,9 +77,11 @@ around source ts a p c before h k l e =
     let one : words_of source ts (range (p - 1) p) ≡ before ∷ [] =
     ap (λ n. words_of source ts (range (p - 1) n)) (sym back) ∙ e in
     let front = words-split source ts a (p - 1) p (omega (arith, h)) (omega arith)
-    (omega (arith, k, l)) ∙ ap (λ ws. words_of source ts (range a (p - 1)) ++ ws) one in
-    (front, words-split source ts a p c (omega (arith, h)) k l
-    ∙ ap (λ ws. ws ++ words_of source ts (range p c)) front)
+    (omega (arith, k, l)) ∙ ap (λ ws. words_of source ts (range a (p - 1)) ++ ws) one in (
+      front,
+      words-split source ts a p c (omega (arith, h)) k l
+          ∙ ap (λ ws. ws ++ words_of source ts (range p c)) front,
+    )
 
 joined : (ws front back : List Word) (before o : Word) (inner : List Word) (c : Word)
     → ws ≡ (front ++ before ∷ []) ++ back → back ≡ o ∷ inner ++ c ∷ []

@@ -237,13 +237,13 @@ decl-either _ _ (g.func w {ws} {front} {body} {f} p s) = inr (
   body,
   p,
   (let begun = precedes-begins (w ∷ ws) front body w ws p refl in
-  let first = function-begins (range_of w ws) body front f s in
-  let is : w.mark ≡ m.Func = cc (begun.1, first.2, first.3) in
-  let read = function-complete (range_of w ws) body w begun.0 f
-  (subst (λ us. IsFunction (range_of w ws) body us f) begun.1 s) in
-  at-keyword w ws front body (decls.Func f) m.Func is
-  (subst (λ us. (decls.Func <$> read_function (range_of w ws) body (drop 1 us))
-  ≡ Some (decls.Func f)) (sym begun.1) (ap (λ o. decls.Func <$> o) read))),
+      let first = function-begins (range_of w ws) body front f s in
+      let is : w.mark ≡ m.Func = cc (begun.1, first.2, first.3) in
+      let read = function-complete (range_of w ws) body w begun.0 f
+      (subst (λ us. IsFunction (range_of w ws) body us f) begun.1 s) in
+      at-keyword w ws front body (decls.Func f) m.Func is
+      (subst (λ us. (decls.Func <$> read_function (range_of w ws) body (drop 1 us))
+      ≡ Some (decls.Func f)) (sym begun.1) (ap (λ o. decls.Func <$> o) read))),
   λ v vs e.
       let begun = precedes-begins (w ∷ ws) front body w ws p refl in
       let first = function-begins (range_of w ws) body front f s in

@@ -166,11 +166,14 @@ module _ (source : List ℕ) (ts : List Token) (chunks : List Chunk) (at : ℕ) 
   place-stops None a e =
       let ws = words_of source ts (get_or chunks at d).tokens in
       let same = words-length source ts chunks in
-      let within : at < length (words_in source ts chunks) = omega (arith, same, some) in
-      (within, (found, far), λ more b.
-      decls-stop (take at (words_in source ts chunks)) found ws more far
-      (λ x p. a x (subst (λ t. IsInPlace t ws x) (sym seen) p))
-      (subst (λ us. AreDecls us more) (take-next source ts chunks at d some) b))
+      let within : at < length (words_in source ts chunks) = omega (arith, same, some) in (
+        within,
+        (found, far),
+        λ more b.
+            decls-stop (take at (words_in source ts chunks)) found ws more far
+            (λ x p. a x (subst (λ t. IsInPlace t ws x) (sym seen) p))
+            (subst (λ us. AreDecls us more) (take-next source ts chunks at d some) b),
+      )
 
   -- one that is
   pub place-adds : (o : Option Decl) (x : Decl)

@@ -56,8 +56,16 @@ outcome front ((w ∷ ws) ∷ cs) ds a h = ⊎_elim
     (λ p. subst Outcome (append_assoc front ((w ∷ ws) ∷ []) cs)
     (outcome (front ++ (w ∷ ws) ∷ []) cs (ds ++ p.0 ∷ [])
     (decls-add front ds (w ∷ ws) p.0 a p.1) h))
-    (λ none. inr (front, w, ws, cs, ds, refl, a,
-    λ more b. decls-stop front ds (w ∷ ws) more a none b))
+    (λ none. inr (
+      front,
+      w,
+      ws,
+      cs,
+      ds,
+      refl,
+      a,
+      λ more b. decls-stop front ds (w ∷ ws) more a none b,
+    ))
     (place-or-not (list_any is_other ds) (w ∷ ws))
 
 all-kept : (ps : List (List Word)) → list_all has_words (filter has_words ps) ≡ true
@@ -85,9 +93,12 @@ answer source ((v ∷ vs) ∷ cs) h = go (read_clause source (v ∷ vs)) refl
         let clause = clause-sound source (v ∷ vs) name e in
         ⊎_elim
         (λ p. inl (file_of name p.0, files.file clause p.1))
-        (λ p. inr (inr (2 + length p.0, p.1,
-        subst (λ us. IsBadChunk source ((v ∷ vs) ∷ us) (2 + length p.0) p.1) (sym p.5)
-        (files.bad p.0 p.1 p.2 p.3 p.4 clause p.6 p.7))))
+        (λ p. inr (inr (
+          2 + length p.0,
+          p.1,
+          subst (λ us. IsBadChunk source ((v ∷ vs) ∷ us) (2 + length p.0) p.1) (sym p.5)
+              (files.bad p.0 p.1 p.2 p.3 p.4 clause p.6 p.7),
+        )))
         (outcome [] cs [] (tt, refl) h)
 
 pub file-or-fault : (source : List ℕ) (tokens : List Token)
@@ -105,5 +116,7 @@ file-or-fault source tokens = ⊎_elim
         (λ p. inl (p.0, (nested, p.1)))
         (λ q. ⊎_elim
         (λ lacks. inr (faults.NoPackageClause, (nested, lacks)))
-        (λ p. inr (faults.BadDeclaration p.0 (line_of source p.1.span.start),
-        (p.1, nested, p.2, refl))) q) a
+        (λ p. inr (
+          faults.BadDeclaration p.0 (line_of source p.1.span.start),
+          (p.1, nested, p.2, refl),
+        )) q) a

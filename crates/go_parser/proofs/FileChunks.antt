@@ -41,6 +41,7 @@ module _ (source : List ℕ) (ts : List Token) where
       → IsDeclared (words_in source ts (others chunks)) (declared.Bad at)
       → IsBadAt source (words_in source ts chunks) at
   one-bad [] d name at h e a = absurd (omega (arith, h))
-  one-bad (c ∷ chunks) d name at h e a =
-      ((name, clause-sound source (words_of source ts c.tokens) name e),
-      subst (λ cs. IsDeclared (words_in source ts cs) (declared.Bad at)) (others-are c chunks) a)
+  one-bad (c ∷ chunks) d name at h e a = (
+    (name, clause-sound source (words_of source ts c.tokens) name e),
+    subst (λ cs. IsDeclared (words_in source ts cs) (declared.Bad at)) (others-are c chunks) a,
+  )

@@ -126,14 +126,15 @@ module _ (source : List ℕ) (ts : List Token) where
       omega (arith, taken at cs (omega (arith, place))) in
       let after : suc at ≡ at + 1 = omega arith in
       let bad = files.bad (take at cs) words.0 words.1 (drop (suc at) cs) b.1.1.0 b.0.1 b.1.1.1
-      (λ more m. b.1.2 more (subst (λ us. AreDecls us more) (sym next) m)) in
-      (words.0,
-      subst (λ us. IsBadChunk source (words_of source ts c.tokens ∷ us) (at + 2) words.0) (sym parts)
-      (subst (λ n. IsBadChunk source (words_of source ts c.tokens ∷ take at cs
-      ++ (words.0 ∷ words.1) ∷ drop (suc at) cs) n words.0) size bad),
-      first-word chunk.tokens.first chunk.tokens.after words.0 words.1 td good.some good.within
-      words.2
-      ∙ ap (λ n. (get_or ts (get_or (c ∷ found) n cd).tokens.first td).span) after)
+      (λ more m. b.1.2 more (subst (λ us. AreDecls us more) (sym next) m)) in (
+        words.0,
+        subst (λ us. IsBadChunk source (words_of source ts c.tokens ∷ us) (at + 2) words.0) (sym parts)
+            (subst (λ n. IsBadChunk source (words_of source ts c.tokens ∷ take at cs
+            ++ (words.0 ∷ words.1) ∷ drop (suc at) cs) n words.0) size bad),
+        first-word chunk.tokens.first chunk.tokens.after words.0 words.1 td good.some good.within
+            words.2
+            ∙ ap (λ n. (get_or ts (get_or (c ∷ found) n cd).tokens.first td).span) after,
+      )
 
   -- the fault of a chunk that is no declaration in its place
   pub bad-fault : (found : List Chunk) (at line : ℕ) (cd : Chunk) (td : Token)
@@ -141,7 +142,9 @@ module _ (source : List ℕ) (ts : List Token) where
       → line ≡ line_of source (get_or ts (get_or found (at + 1) cd).tokens.first td).span.start
       → FileFault source ts (faults.BadDeclaration (at + 2) line)
   bad-fault found at line cd td a b e =
-      let bad = bad-chunk found at cd td a.each b in
-      (bad.0, a.nested,
-      subst (λ us. IsBadChunk source us (at + 2) bad.0) a.same_words bad.1,
-      ap (λ s. line_of source s.start) bad.2 ∙ sym e)
+      let bad = bad-chunk found at cd td a.each b in (
+        bad.0,
+        a.nested,
+        subst (λ us. IsBadChunk source us (at + 2) bad.0) a.same_words bad.1,
+        ap (λ s. line_of source s.start) bad.2 ∙ sym e,
+      )

@@ -117,9 +117,16 @@ fn a_file_has_its_declarations_in_order(rt: HostRuntime) -> Result<(), Fail> {
     let source = "package p\nimport \"a\"\nimport (b \"b\")\ntype T[P interface{ ~int }] []P\n\
         const x = 1\nvar y T[int]\nfunc f() {}\n";
     let outcome = outcome(&rt, source)?;
-    assert!(rt; outcome.as_str().contains("package: Span { start: 8, end: 9 }"), "{outcome}");
+    assert!(rt;
+        outcome
+            .as_str()
+            .contains("package: Span { start: 8, end: 9 }"),
+        "{outcome}"
+    );
     let mut rest = outcome.as_str();
-    for kind in ["Import(", "Import(", "Types(", "bound:", "Const(", "Var(", "Func("] {
+    for kind in [
+        "Import(", "Import(", "Types(", "bound:", "Const(", "Var(", "Func(",
+    ] {
         match rest.split_once(kind) {
             Some((_, after)) => rest = after,
             None => assert!(rt; false, "{kind} in {outcome}"),

@@ -12,10 +12,11 @@ returns-then-not-is-clause-body c =
     c.word_at-before.result c.word_at-opening.result c.requires.within c.requires.later
     c.word_at-before.ensures c.word_at-opening.ensures c.requires.opened
     (elim c.then-not-is.branch [
-      then-not-is-via-then-not-is w ↦ inr (differ_marks c.word_at-opening.result.mark m.OpenBrace
+      | then-not-is-via-then-not-is w ↦ inr (differ_marks c.word_at-opening.result.mark m.OpenBrace
           (sym c.is.ensures ∙ w.if-not-is.true))
       | then-not-is-via-else-not-is+then-takes_braces w ↦
-          inl (sym w.takes_braces.ensures ∙ w.if-takes_braces.true) ])
+          inl (sym w.takes_braces.ensures ∙ w.if-takes_braces.true)
+    ])
 
 pub returns-clause-body : goal.returns-clause-body
 returns-clause-body c =

@@ -19,12 +19,13 @@ loop-at-preserved c =
     let grown = c.in_ok-push.ensures.ok in
     let all = place-adds c.args.source.now c.args.tokens.now c.args.chunks.now c.loop-at.at _
     c.loop-at.found c.loop-at.others (omega (arith, c.loop-at-test.true)) c.loop-at.invariant.0
-    c.loop-at.invariant.1 c.in_ok-decl.field-0 c.in-Some.decl c.in_ok-decl.ensures c.in-Some.is in
-    (subst (AreDecls (take (c.loop-at.at + 1)
-    (words_in c.args.source.now c.args.tokens.now c.args.chunks.now))) (sym grown) all,
-    c.others_after-others.ensures
-    ∙ others-add c.loop-at.found c.in-Some.decl c.loop-at.others c.loop-at.invariant.1
-    ∙ ap (list_any is_other) (sym grown))
+    c.loop-at.invariant.1 c.in_ok-decl.field-0 c.in-Some.decl c.in_ok-decl.ensures c.in-Some.is in (
+      subst (AreDecls (take (c.loop-at.at + 1)
+          (words_in c.args.source.now c.args.tokens.now c.args.chunks.now))) (sym grown) all,
+      c.others_after-others.ensures
+          ∙ others-add c.loop-at.found c.in-Some.decl c.loop-at.others c.loop-at.invariant.1
+          ∙ ap (list_any is_other) (sym grown),
+    )
 
 pub returns : goal.returns
 returns c =
