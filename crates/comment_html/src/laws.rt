@@ -12,7 +12,7 @@ ghost use Rattle.comment_html.specs.Parts.{IsMarkup};
 /// text ends an element or a tag, or starts one. The call does nothing.
 pub fn html_is_tags_and_escaped_texts()
     ensures { (blocks : List Block) (names : List ℕ → Option (List ℕ))
-        → IsMarkup (html_of blocks names) }
+        → IsMarkup blocks names (html_of blocks names) }
 {}
 
 /// An escaped text has none of `<`, `>`, `"` and `'`, and each `&` in it begins one of the five

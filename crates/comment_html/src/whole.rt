@@ -79,7 +79,7 @@ fn text_of(html: Text) -> Txt
 /// `NoMemory` where an allocation is refused, or the names answer it.
 pub fn html<N: Names>(alloc: Global, blocks: &[Block], names: &N) -> Mem<Txt>
     ensures value { IfOk result (λ html. html ≡ html_of blocks.now (N.address_of names.now)) }
-    ensures markup { IfOk result (λ html. IsMarkup html) }
+    ensures markup { IfOk result (IsMarkup blocks.now (N.address_of names.now)) }
 {
     let links = definitions_of(alloc, blocks)?;
     let definitions = Definitions::new(alloc, links.as_slice())?;

@@ -9,4 +9,5 @@ pub returns-clause-markup : goal.returns-clause-markup
 returns-clause-markup g c =
     let names = g.N.Names.address_of c.args.names.now in
     let same : c.text_of.result ≡ html_of c.args.blocks.now names = grind (arith, common_steps) in
-    subst IsMarkup (sym same) (is_markup c.args.blocks.now names)
+    subst (λ html. IsMarkup c.args.blocks.now names html) (sym same)
+    (is_markup c.args.blocks.now names)
