@@ -56,14 +56,14 @@ def size_of(root):
     return total, largest
 
 
-def build_peer(work, peer):
-    """Builds a program of Go's own packages, a folder beside this file: its path, or None where Go is missing."""
+def build_peers(work):
+    """Builds the program of Go's own scanner and parser in a folder: its path, or None where Go is missing."""
     if not shutil.which("go"):
         return None
-    program = os.path.join(work, peer)
+    program = os.path.join(work, "gopeers")
     environment = dict(os.environ, GOCACHE=os.path.join(work, "cache"), GO111MODULE="off")
-    source = os.path.join(HERE, peer, "main.go")
-    return None if subprocess.call(["go", "build", "-o", program, source], env=environment) else program
+    sources = [os.path.join(HERE, "gopeers", name) for name in ("main.go", "parse.go", "scan.go")]
+    return None if subprocess.call(["go", "build", "-o", program] + sources, env=environment) else program
 
 
 def one_core():
