@@ -8,7 +8,7 @@ use Rattle.std.specs.List.{list_all}
 use Rattle.std.specs.Char.{is_ascii_alphabetic, is_ascii_digit}
 use Rattle.std.proofs.lemmas.Bool.{eqb-true}
 use Rattle.go_chars.specs.Letters.{is_digit}
-use Rattle.go_chars.proofs.Ascii.{ascii_letters, ascii_digits}
+use Rattle.go_chars.proofs.CharLaws.{ascii_letters, ascii_digits}
 use Rattle.build_lines.specs.Expressions.{Expression, Conjunction, tag, Symbol, opening, closing}
 use Rattle.build_lines.specs.Expressions.{bang, ampersands, bars, name, is_blank}
 use Rattle.build_lines.specs.Expressions.{is_tag_character, is_tag, is_symbol, Spaces, print}

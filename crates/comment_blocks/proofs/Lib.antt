@@ -1,14 +1,15 @@
-pub mod BlockSteps
-pub mod Boundaries
-pub mod Contents
-pub mod Cuttings
-pub mod DocGroups
-pub mod Halves
-pub mod Items
-pub mod LaidOut
-pub mod LineCuts
-pub mod ListSteps
-pub mod Loops
-pub mod OneGroup
-pub mod Scans
-pub mod TextLines
+mod BlockSteps
+mod Boundaries
+mod Contents
+mod Cuttings
+mod DocGroups
+mod Halves
+mod Items
+mod LaidOut
+mod LineCuts
+mod ListSteps
+mod Loops
+mod OneGroup
+mod Scans
+mod TextLines
+pub mod BlockLaws

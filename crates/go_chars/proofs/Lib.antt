@@ -1,2 +1,3 @@
-pub mod Ascii
-pub mod Words
+mod Ascii
+mod Words
+pub mod CharLaws

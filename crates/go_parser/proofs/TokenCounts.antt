@@ -7,7 +7,7 @@ use Rattle.go_ast.specs.declared.token.Comment.{Comment}
 use Rattle.go_ast.specs.declared.token.TokenKind.TheVariants.{AutoSemi}
 use Rattle.go_ast.specs.Lexical.{Item, Spelling, print_item, Stands, white_space, byte_order_mark, line_comment, general_comment, spelled}
 use Rattle.go_ast.specs.Reading.{Leads, Reads, line_ends, takes_semicolon, semicolon_after, token_of, tokens_at, tokens_of}
-use Rattle.go_scanner.proofs.Standing.Items.{length-print_item-pos}
+use Rattle.go_scanner.proofs.ScanLaws.{length-print_item-pos}
 
 few_where : (end : ℕ) (b : Bool)
     → length (if b then token_of AutoSemi end end ∷ [] else []) ≤ 1

@@ -1,19 +1,20 @@
-pub mod ClassTable
-pub mod Closings
-pub mod Dispatch
-pub mod Faults
-pub mod ItemShapes
-pub mod Marks
-pub mod Newlines
-pub mod OneReading
-pub mod Places
-pub mod Positions
-pub mod Progress
-pub mod Refusals
-pub mod Runs
-pub mod Spans
-pub mod Standing
-pub mod TextScan
-pub mod Utf8
-pub mod Values
-pub mod Words
+mod ClassTable
+mod Closings
+mod Dispatch
+mod Faults
+mod ItemShapes
+mod Marks
+mod Newlines
+mod OneReading
+mod Places
+mod Positions
+mod Progress
+mod Refusals
+mod Runs
+mod Spans
+mod Standing
+mod TextScan
+mod Utf8
+mod Values
+mod Words
+pub mod ScanLaws

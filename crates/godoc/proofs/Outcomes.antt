@@ -9,7 +9,7 @@ use Rattle.go_ast.specs.declared.token.Comment.{Comment}
 use Rattle.go_ast.specs.Files.{SpellsFile}
 use Rattle.go_ast.specs.Reading.{Reads}
 use Rattle.go_parser.proofs.FileLaws.{spelled_or_not}
-use Rattle.go_scanner.proofs.OneReading.{not_both, one_reading, read_or_faulty}
+use Rattle.go_scanner.proofs.ScanLaws.{not_both, one_reading, read_or_faulty}
 use Rattle.link_io.specs.Streams.{Adds}
 use Rattle.tree_io.specs.declared.tree.Entry.{Entry}
 use Rattle.tree_io.specs.declared.tree.Entry.TheVariants.{Bytes, Large, Unread}

@@ -17,11 +17,11 @@ use Rattle.go_ast.specs.Lexical.{Spelling, identifier, keyword, operator, intege
 use Rattle.go_ast.specs.Reading.{Leads, Reads, kind_of, line_ends, takes_semicolon, token_of, tokens_at, tokens_of}
 use Rattle.go_ast.specs.Tokens.{is_ident, text_of}
 use Rattle.go_scanner.specs.Shapes.{length_of, word_at, word_shape}
-use Rattle.go_scanner.proofs.Standing.Boundaries.{utf8_after}
-use Rattle.go_scanner.proofs.Standing.FirstBytes.{begins_word-identifier}
-use Rattle.go_scanner.proofs.Standing.Fronts.{SpelledAt-IsSpelled, whole_run}
-use Rattle.go_scanner.proofs.Standing.Lists.{same_fronts}
-use Rattle.go_scanner.proofs.Standing.Names.{front_split, name_found}
+use Rattle.go_scanner.proofs.ScanLaws.{utf8_after}
+use Rattle.go_scanner.proofs.ScanLaws.{begins_word-identifier}
+use Rattle.go_scanner.proofs.ScanLaws.{SpelledAt-IsSpelled, whole_run}
+use Rattle.go_scanner.proofs.ScanLaws.{same_fronts}
+use Rattle.go_scanner.proofs.ScanLaws.{front_split, name_found}
 use Rattle.ident_index.specs.declared.hit.Hit.{Hit}
 use Rattle.ident_index.specs.declared.hit.HitFile.{HitFile}
 use Rattle.ident_index.specs.Hits.{AreHitsOf, AreNamed, IsHitOf}

@@ -1,5 +1,5 @@
--- Where brackets end and lists are cut, as the parser finds it. Only proofs and private clauses use
--- these.
+-- Where brackets end and lists are cut, as the parser finds it. The clauses of `Words` cite these,
+-- and private ones.
 use Rattle.std.specs.Prelude.{ℕ, suc, ◌&&◌, List, [], ◌∷◌, take, drop, if◌then◌else◌, ◌==◌}
 use Rattle.std.specs.Prelude.{Option, Some, None}
 use Rattle.go_ast.specs.declared.word.Word.{Word}

@@ -1,4 +1,4 @@
--- Entries of type parameters, each read with the one after it. Only proofs and private clauses use
+-- Entries of type parameters, each read with the one after it. The public clauses named `read` cite
 -- these.
 use Rattle.std.specs.Prelude.{List, [], ◌∷◌, Option, Some, None}
 use Rattle.std.specs.Prelude.{if◌then◌else◌, slice_get}

@@ -16,7 +16,7 @@ use Rattle.std.proofs.lemmas.Str.{encode_same}
 use lib.Utf8.{encode}
 use Rattle.go_chars.specs.Letters.{is_letter}
 use Rattle.go_chars.specs.Identifiers.{is_among, is_identifier, is_letter_or_digit, keywords}
-use Rattle.go_chars.proofs.Ascii.{ascii_letters, ascii_digits, mark_no_letter}
+use Rattle.go_chars.proofs.CharLaws.{ascii_letters, ascii_digits, mark_no_letter}
 use Rattle.go_ast.specs.Characters.{is_white_space, double_quote, single_quote, back_quote}
 use Rattle.go_ast.specs.Characters.{underscore, full_stop, Begins, byte_order_mark_bytes}
 use Rattle.go_ast.specs.Numbers.{Digit, digit, separated, print_digits, are_digits, is_digit_of}

@@ -2,7 +2,7 @@ use Rattle.std.proofs.Common.{◌≡◌, ◌∙◌, sym, ap, subst}
 use Rattle.std.specs.Str.{IsCharBoundary}
 use Rattle.std.specs.List.{prefix_len}
 use Rattle.comment_blocks.specs.Kinds.{is_in_brackets}
-use Rattle.comment_blocks.proofs.Boundaries.{before_stop, bracket_is_ascii}
+use Rattle.comment_blocks.proofs.BlockLaws.{before_stop, bracket_is_ascii}
 use Rattle.comment_links.proofs.bracket.defined_link.Goals as goal
 
 pub cut-requires : goal.cut-requires

@@ -4,7 +4,7 @@ use Rattle.go_ast.specs.Tokens.{IsWithin}
 use Rattle.go_parser.specs.Answers.{RefusedFor}
 use Rattle.go_parser.proofs.FileAnswers.{found-is, refused-is}
 use Rattle.go_parser.proofs.TokenCounts.{few_tokens}
-use Rattle.go_scanner.proofs.Spans.{within}
+use Rattle.go_scanner.proofs.ScanLaws.{within}
 use Rattle.go_parser.proofs.parse.parse_file.Goals as goal
 
 pub file_in-requires-clause-few : goal.file_in-requires-clause-few

@@ -1,5 +1,5 @@
 use Rattle.std.proofs.Common.{◌≡◌, true, arith}
-use Rattle.go_scanner.proofs.Positions.{AreLineStarts-line_starts, position_is}
+use Rattle.go_scanner.proofs.ScanLaws.{AreLineStarts-line_starts, position_is}
 use Rattle.godoc.proofs.HitLines.{line_for_hit}
 use Rattle.godoc.specs.Find.{is_hit}
 use Rattle.godoc.proofs.hit_lines.push_hit.Goals as goal
