@@ -1,11 +1,11 @@
-pub mod CommentPlaces
-pub mod CutBytes
-pub mod CutSymbols
-pub mod CutText
-pub mod ExpressionValues
-pub mod Parsing
-pub mod SpacedText
-pub mod SymbolText
-pub mod TreeValues
-pub mod Trees
-pub mod Versions
+mod CommentPlaces
+mod CutBytes
+mod CutSymbols
+mod CutText
+mod ExpressionValues
+mod Parsing
+mod SpacedText
+mod SymbolText
+mod TreeValues
+mod Trees
+mod Versions

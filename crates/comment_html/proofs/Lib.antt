@@ -1,3 +1,3 @@
-pub mod EscapedTexts
-pub mod Joins
-pub mod Markup
+mod EscapedTexts
+mod Joins
+mod Markup

@@ -1,13 +1,13 @@
-pub mod AddressEnds
-pub mod AddressMarks
-pub mod Addresses
-pub mod Begins
-pub mod BracketLinks
-pub mod Closings
-pub mod Founds
-pub mod Halves
-pub mod LastChars
-pub mod Lists
-pub mod Spaces
-pub mod Steps
-pub mod Wholes
+mod AddressEnds
+mod AddressMarks
+mod Addresses
+mod Begins
+mod BracketLinks
+mod Closings
+mod Founds
+mod Halves
+mod LastChars
+mod Lists
+mod Spaces
+mod Steps
+mod Wholes

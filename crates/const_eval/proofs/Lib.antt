@@ -1,13 +1,13 @@
-pub mod Arithmetic
-pub mod Characters
-pub mod Digits
-pub mod Finding
-pub mod LiteralLaws
-pub mod MachineSteps
-pub mod OneTree
-pub mod OperandLaws
-pub mod Options
-pub mod RuneLaws
-pub mod TreeLaws
-pub mod Values
-pub mod WorthLaws
+mod Arithmetic
+mod Characters
+mod Digits
+mod Finding
+mod LiteralLaws
+mod MachineSteps
+mod OneTree
+mod OperandLaws
+mod Options
+mod RuneLaws
+mod TreeLaws
+mod Values
+mod WorthLaws

@@ -1,7 +1,7 @@
-pub mod ListLemmas
-pub mod NameLemmas
-pub mod OrderLemmas
-pub mod FillLemmas
-pub mod TypeLemmas
-pub mod PlaceLemmas
-pub mod LawLemmas
+mod FillLemmas
+mod LawLemmas
+mod ListLemmas
+mod NameLemmas
+mod OrderLemmas
+mod PlaceLemmas
+mod TypeLemmas

@@ -1,4 +1,4 @@
-pub mod Falling
-pub mod Flags
-pub mod Following
-pub mod Trails
+mod Falling
+mod Flags
+mod Following
+mod Trails

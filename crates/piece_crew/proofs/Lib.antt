@@ -1,5 +1,5 @@
-pub mod Closing
-pub mod Counting
-pub mod Ordering
-pub mod Pairs
-pub mod Steps
+mod Closing
+mod Counting
+mod Ordering
+mod Pairs
+mod Steps

@@ -1,6 +1,6 @@
-pub mod Logs
-pub mod Adding
-pub mod Steps
-pub mod Joining
-pub mod Reading
-pub mod Publishing
+mod Adding
+mod Joining
+mod Logs
+mod Publishing
+mod Reading
+mod Steps

@@ -1,4 +1,4 @@
-pub mod Cuts
-pub mod FirstSentences
-pub mod Sentences
-pub mod Words
+mod Cuts
+mod FirstSentences
+mod Sentences
+mod Words

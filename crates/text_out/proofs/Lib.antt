@@ -1,1 +1,1 @@
-pub mod EscapeLemmas
+mod EscapeLemmas
