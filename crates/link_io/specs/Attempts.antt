@@ -1,4 +1,5 @@
--- Cited by contracts. What one call of a stream of the standard library came to.
+-- What one call of a stream of the standard library came to. The contract of a private function
+-- cites this, and no public clause.
 use Rattle.std.specs.Prelude.{◌≡◌, ◌≢◌, ℕ, Result, Ok, IsErrAnd}
 use Rattle.std.specs.IoError.{error_kind}
 use Rattle.std.specs.declared.io.Error.{Error}

@@ -228,7 +228,8 @@ impl Sink for MemLink {
     fn write(&mut self, piece: &[u8]) -> Result<usize, Failed>
         ensures writes { Writes self.old.sink self.new.sink piece.now result }
         ensures source { self.new.source ≡ self.old.source }
-        ensures bytes { WritesFrom (held_of self.old.sink) (held_of self.new.sink) piece.now result }
+        ensures bytes { WritesFrom (held_of self.old.sink) (held_of self.new.sink)
+            piece.now result }
         ensures cause { HasCause self.old.sink.faults self.new.sink.faults result }
     {
         self.sink.write(piece)

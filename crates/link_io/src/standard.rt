@@ -4,6 +4,7 @@
 ghost use Rattle.std.specs.Prelude.{◌≡◌, ◌<◌, length, IfOk, None};
 ghost use Rattle.std.specs.Io.{ReadsAtMost, WritesAtMost};
 ghost use Rattle.std.specs.Io.KnownBytes.{ReadConsumes, WriteAppends};
+ghost use Rattle.plain_data.specs.Causes.{HasCause};
 ghost use Rattle.link_io.specs.Attempts.{IsAttempt};
 
 use crate::sink::Sink;
@@ -38,11 +39,7 @@ impl<R: Input> Source for StdSource<R> {
 
     /// Reads again where a signal interrupts the read, and counts every other error.
     fn read(&mut self, buf: &mut [u8]) -> Result<usize, Failed> {
-        let read = read_from(&mut self.reader, buf);
-        if read.is_err() {
-            self.faults.add_one();
-        }
-        read
+        counted(read_from(&mut self.reader, buf), &mut self.faults)
     }
 }
 
@@ -73,12 +70,19 @@ impl<R: Print> Sink for StdSink<R> {
     /// Writes again where a signal interrupts the write, and counts every other error, and a write
     /// of no byte of a piece that has some.
     fn write(&mut self, piece: &[u8]) -> Result<usize, Failed> {
-        let written = write_to(&mut io::writer(&self.rt), piece);
-        if written.is_err() {
-            self.faults.add_one();
-        }
-        written
+        counted(write_to(&mut io::writer(&self.rt), piece), &mut self.faults)
     }
+}
+
+/// What a call moved, as it is; a failure is counted.
+fn counted(moved: Result<usize, Failed>, faults: &mut FaultCount) -> Result<usize, Failed>
+    ensures same { result ≡ moved }
+    ensures cause { HasCause faults.old faults.new moved }
+{
+    if moved.is_err() {
+        faults.add_one();
+    }
+    moved
 }
 
 /// What one call of a stream of the standard library came to.
@@ -124,8 +128,8 @@ pub(crate) fn write_to<W: Write>(writer: &mut W, piece: &[u8]) -> Result<usize, 
 {
     for _ in 0..u64::MAX {
         match attempt_of(writer.write(piece)) {
-            Attempt::Moved(0) if !piece.is_empty() => return Err(Failed),
-            Attempt::Moved(count) => return Ok(count),
+            Attempt::Moved(taken) if taken > 0 || piece.is_empty() => return Ok(taken),
+            Attempt::Moved(_) => return Err(Failed),
             Attempt::Interrupted => {}
             Attempt::Failed => return Err(Failed),
         }

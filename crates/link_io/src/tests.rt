@@ -21,7 +21,8 @@ enum End {
 // What code over any link knows with no second look: a read and a write each change their own side
 // alone.
 fn echo<L: Link>(link: &mut L) -> Result<(), End>
-    ensures moved { OnOk result ((bytes : List ℕ) × Takes (L.remaining link.old) bytes (L.remaining link.new)
+    ensures moved { OnOk result ((bytes : List ℕ)
+        × Takes (L.remaining link.old) bytes (L.remaining link.new)
         × Adds (L.held link.old) bytes (L.held link.new)) }
     ensures read { IsCaused (L.read_faults link.old) (L.read_faults link.new)
         (result ≡ Err End.ReadFault) }
@@ -42,7 +43,8 @@ fn echo<L: Link>(link: &mut L) -> Result<(), End>
 
 // What whoever lent the two parts of a link knows of them afterwards.
 fn echo_between<I: Source, O: Sink>(input: &mut I, out: &mut O) -> Result<(), End>
-    ensures moved { OnOk result ((bytes : List ℕ) × Takes (I.remaining input.old) bytes (I.remaining input.new)
+    ensures moved { OnOk result ((bytes : List ℕ)
+        × Takes (I.remaining input.old) bytes (I.remaining input.new)
         × Adds (O.held out.old) bytes (O.held out.new)) }
     ensures read { IsCaused (I.read_faults input.old) (I.read_faults input.new)
         (result ≡ Err End.ReadFault) }
@@ -158,9 +160,11 @@ fn a_link_of_two_parts_is_both(rt: HostRuntime) -> Result<(), Fail> {
     Ok(())
 }
 
-// A runtime whose standard input is a text, and whose standard output takes no byte.
+// A runtime whose standard input is a text, and whose standard output takes so many bytes at once.
 #[derive(Clone, Copy)]
-struct Canned;
+struct Canned {
+    most: usize,
+}
 
 impl Input for Canned {
     type Reader = &'static [u8];
@@ -191,8 +195,8 @@ impl Print for Canned {
         Ok(())
     }
 
-    fn write_some(&self, _: &[u8]) -> io::Result<usize> {
-        Ok(0)
+    fn write_some(&self, piece: &[u8]) -> io::Result<usize> {
+        Ok(piece.len().min(self.most))
     }
 }
 
@@ -266,13 +270,16 @@ fn a_signal_is_no_fault_and_an_error_is_one(rt: HostRuntime) -> Result<(), Fail>
 
 #[test]
 fn standard_streams_pass_bytes_on(rt: HostRuntime) {
-    let mut source = StdSource::new(Canned);
+    let mut source = StdSource::new(Canned { most: 0 });
     let mut buf = [0; 4];
     assert_eq!(rt; source.read(&mut buf), Ok(4));
     assert_eq!(rt; buf.as_slice(), b"abcd".as_slice());
     assert_eq!(rt; source.read(&mut buf), Ok(2));
     assert_eq!(rt; source.read(&mut buf), Ok(0));
-    let mut broken = StdSink::new(Canned);
+    let mut short = StdSink::new(Canned { most: 1 });
+    assert_eq!(rt; short.write(b"ab"), Ok(1));
+    assert_eq!(rt; write_whole(&mut short, b"ab"), Ok(()));
+    let mut broken = StdSink::new(Canned { most: 0 });
     assert_eq!(rt; write_whole(&mut broken, b"ab"), Err(Failed));
     assert_eq!(rt; broken.write(b""), Ok(0));
     let mut sink = StdSink::new(rt);

@@ -1,5 +1,6 @@
 pub mod Laws
 mod Dedup
 mod FileMaps
+mod Leading
 mod Reading
 mod Segments

@@ -29,7 +29,10 @@ after_call tree = record tree { calls = called tree.calls }
 
 -- the tree after a scan was opened
 abbrev pub opened : State → State
-opened tree = record tree { calls = called tree.calls; scans = tree.scans ++ version_at tree.versions (length tree.scans) ∷ [] }
+opened tree = record tree {
+  calls = called tree.calls;
+  scans = tree.scans ++ version_at tree.versions (length tree.scans) ∷ [];
+}
 
 -- the tree after a call of `open_scan` or `list` that failed, and after one of `read`
 abbrev pub list_failed : State → State

@@ -36,9 +36,8 @@ IsReadable Large = Unit {0}
 IsReadable Unread = ⊥
 
 abbrev pub is_unread : Entry → Bool
-is_unread (Bytes bytes) = false
-is_unread Large = false
 is_unread Unread = true
+is_unread entry = false
 
 -- how many entries are `Unread`
 abbrev pub unread_count : Sources → ℕ

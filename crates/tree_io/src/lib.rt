@@ -10,6 +10,7 @@ mod file;
 mod files;
 mod folder;
 mod memory;
+mod names;
 mod path;
 mod place;
 mod tree;
@@ -18,6 +19,7 @@ mod walk;
 pub use entries::read_entry;
 pub use folder::FsTree;
 pub use memory::MemTree;
+pub use names::names_that_lead;
 pub use path::{MAX_PATH_BYTES, belongs};
 pub use tree::{Entry, MAX_FILE_BYTES, Tree};
 

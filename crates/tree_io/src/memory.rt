@@ -34,7 +34,8 @@ impl Model for MemTree {
       read_faults = tree.read_faults;
     } };
 
-    ghost invariant = { λ tree. IsKept (map files_of tree.versions.items) tree.opened tree.calls.made };
+    ghost invariant = { λ tree.
+        IsKept (map files_of tree.versions.items) tree.opened tree.calls.made };
 }
 
 impl MemTree {

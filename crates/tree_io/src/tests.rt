@@ -4,10 +4,11 @@ ghost use Rattle.tree_io.specs.Scans.{under_way};
 
 use super::file::read_entry_from;
 use super::place::{full_path, join};
-use super::walk::{is_folder, may_lead};
+use super::walk::{MAX_ENTRIES, Walk, is_folder, may_lead, visit_all, visit_named};
 use super::*;
 use plain_data::{Bytes, IoFail, Mem, Seq, Txt};
 use std::alloc::Global;
+use std::fs::ReadDir;
 use std::io::{ErrorKind, Read};
 use std::os::unix::fs::symlink;
 use std::test::Fail;
@@ -212,8 +213,11 @@ fn trees_in_folders(rt: HostRuntime) -> Result<(), Fail> {
     symlink(&rt, "b.go", "tree/l.go")?;
     symlink(&rt, "a", "tree/m.go")?;
     symlink(&rt, "a", "tree/n")?;
+    // Its first byte can't be read.
+    symlink(&rt, "/proc/self/mem", "tree/o.go")?;
+    symlink(&rt, "missing", "tree/p.go")?;
     let mut tree = FsTree::new(rt.clone()?, String::from_str(alloc, "tree")?);
-    let wanted = "a.go 3;a/b/c.go 2;b.go 1;d.go/e.go 10;l.go 1;m.go -;";
+    let wanted = "a.go 3;a/b/c.go 2;b.go 1;d.go/e.go 10;l.go 1;m.go -;o.go -;p.go -;";
     assert_eq!(rt; shown(alloc, &mut tree)?.as_str(), wanted);
 
     let mut missing = FsTree::new(rt.clone()?, String::from_str(alloc, "no/tree")?);
@@ -277,6 +281,42 @@ fn a_file_that_fails_has_no_entry(rt: HostRuntime) {
     }
     let kind = Err(io::Error::from(ErrorKind::PermissionDenied));
     assert_eq!(rt; is_folder(kind), Err(IoFail::Failed));
+}
+
+#[test]
+fn an_entry_whose_kind_is_unknown_fails_where_paths_may_stand(rt: HostRuntime) {
+    let alloc = rt.alloc();
+    let mut walk = Walk::new(alloc);
+    for (name, wanted) in [
+        ("a", Err(IoFail::Failed)),
+        ("a.go", Err(IoFail::Failed)),
+        (".git", Ok(())),
+        ("vendor", Ok(())),
+    ] {
+        let kind = Err(io::Error::from(ErrorKind::PermissionDenied));
+        let mut walk = Walk::new(alloc);
+        assert_eq!(rt;
+            visit_named(alloc, "x", name, kind, &mut walk),
+            wanted,
+            "{name:?}"
+        );
+    }
+    walk.met = MAX_ENTRIES;
+    let kind = Err(io::Error::from(ErrorKind::OutOfMemory));
+    let full = visit_named(alloc, "x", ".git", kind, &mut walk);
+    assert_eq!(rt; full, Err(IoFail::Failed));
+}
+
+#[test]
+fn a_folder_that_cannot_be_read_fails(rt: HostRuntime) {
+    for (kind, wanted) in [
+        (ErrorKind::PermissionDenied, IoFail::Failed),
+        (ErrorKind::OutOfMemory, IoFail::NoMemory),
+    ] {
+        let entries: io::Result<ReadDir<HostRuntime, Global>> = Err(io::Error::from(kind));
+        let mut walk = Walk::new(rt.alloc());
+        assert_eq!(rt; visit_all(rt.alloc(), "x", entries, &mut walk), Err(wanted));
+    }
 }
 
 #[test]

@@ -1,15 +1,15 @@
 //! The walk through a real folder.
 
-ghost use Rattle.std.specs.Prelude.{◌≡◌, ◌+◌, ◌-◌, ◌∷◌, [], ◌++◌, ◌⊎◌, ◌≤◌, ◌<◌, ◌↔◌, All, IfErr, IfOk, IsErr, IsErrAnd, IsOkAnd, IsTrue, MatchResult, OnErr, OnOk, false, map, string_bytes, vec_len};
+ghost use Rattle.std.specs.Prelude.{◌≡◌, ◌+◌, ◌-◌, ◌∷◌, [], ◌++◌, ◌⊎◌, ◌≤◌, ◌<◌, ◌↔◌, All, IfErr, IfOk, IsErrAnd, IsOkAnd, IsTrue, MatchResult, OnOk, Err, false, map, string_bytes, vec_len};
 ghost use Rattle.std.specs.Fs.{IsDir};
 ghost use Rattle.plain_data.specs.Causes.{IsFailOf};
-ghost use Rattle.tree_io.specs.Path.{Belongs, IsRising, MayLead};
+ghost use Rattle.tree_io.specs.Path.{Belongs, IsRising, MayLead, joined};
 
 use crate::path::{belongs, has_path_bytes, is_source_folder};
 use crate::place::{full_path, join};
 use plain_data::{IoFail, Mem, Seq, Txt};
 use std::alloc::Global;
-use std::fs::{DirEntry, FileType, Files};
+use std::fs::{DirEntry, FileType, Files, ReadDir};
 use std::{fs, io};
 
 /// The most entries of folders that one walk meets.
@@ -18,10 +18,25 @@ pub(crate) const MAX_ENTRIES: usize = 4_000_000;
 /// How far a walk has come: the folders that are still to be read, the paths found so far, and how
 /// many entries of folders were met.
 #[derive(Drop)]
-struct Walk {
-    folders: Vec<String>,
-    paths: Vec<String>,
-    met: usize,
+pub(crate) struct Walk {
+    pub(crate) folders: Vec<String>,
+    pub(crate) paths: Vec<String>,
+    pub(crate) met: usize,
+}
+
+impl Walk {
+    /// A walk that has come nowhere.
+    pub(crate) fn new(alloc: Global) -> Walk
+        ensures no_folder { result.folders.items ≡ [] }
+        ensures no_path { result.paths.items ≡ [] }
+        ensures nothing_met { result.met ≡ 0 }
+    {
+        Walk {
+            folders: Vec::new(alloc),
+            paths: Vec::new(alloc),
+            met: 0,
+        }
+    }
 }
 
 /// The paths below a folder that belong, strictly rising by their bytes.
@@ -47,11 +62,7 @@ fn find_paths<R: Files + AllocGlobal + Clone + Drop>(
 ) -> Result<Vec<String>, IoFail>
     ensures { IfOk result (λ paths. All (λ path. Belongs (string_bytes path)) paths.items) }
 {
-    let mut walk = Walk {
-        folders: Vec::new(alloc),
-        paths: Vec::new(alloc),
-        met: 0,
-    };
+    let mut walk = Walk::new(alloc);
     walk.folders.push(String::new(alloc))?;
     while let Some(folder) = walk.folders.pop() {
         walk_folder(rt, alloc, root, folder.as_str(), &mut walk)?;
@@ -75,14 +86,31 @@ fn walk_folder<R: Files + AllocGlobal + Clone + Drop>(
         ≤ vec_len walk.old.folders + (MAX_ENTRIES - walk.old.met)) }
 {
     let whole = full_path(alloc, root, folder)?;
-    for entry in fs::read_dir(rt, whole.as_str())? {
+    visit_all(alloc, folder, fs::read_dir(rt, whole.as_str()), walk)
+}
+
+/// Meets the entries of a folder. A folder that can't be read is an error.
+pub(crate) fn visit_all<R: Files + Clone + Drop>(
+    alloc: Global,
+    folder: &str,
+    entries: io::Result<ReadDir<R, Global>>,
+    walk: &mut Walk,
+) -> Result<(), IoFail>
+    requires met { walk.old.met ≤ MAX_ENTRIES }
+    requires belong { All (λ path. Belongs (string_bytes path)) walk.old.paths.items }
+    ensures unread { IfErr entries (λ error. IsErrAnd result (IsFailOf error)) }
+    ensures met { OnOk result (walk.new.met ≤ MAX_ENTRIES) }
+    ensures belong { OnOk result (All (λ path. Belongs (string_bytes path)) walk.new.paths.items) }
+    ensures nearer { OnOk result (vec_len walk.new.folders + (MAX_ENTRIES - walk.new.met)
+        ≤ vec_len walk.old.folders + (MAX_ENTRIES - walk.old.met)) }
+{
+    for entry in entries? {
         visit(alloc, folder, entry, walk)?;
     }
     Ok(())
 }
 
-/// Meets one entry of a folder, which may be an error. One entry more than [`MAX_ENTRIES`] is a
-/// fault.
+/// Meets one entry of a folder, which may be an error.
 fn visit<R: Files + Drop>(
     alloc: Global,
     folder: &str,
@@ -91,21 +119,52 @@ fn visit<R: Files + Drop>(
 ) -> Result<(), IoFail>
     requires met { walk.old.met ≤ MAX_ENTRIES }
     requires belong { All (λ path. Belongs (string_bytes path)) walk.old.paths.items }
-    ensures error { OnErr entry (IsErr result) }
-    ensures full { walk.old.met ≡ MAX_ENTRIES → IsErr result }
+    ensures error { IfErr entry (λ error. IsErrAnd result (IsFailOf error)) }
     ensures met { OnOk result (walk.new.met ≤ MAX_ENTRIES) }
     ensures belong { OnOk result (All (λ path. Belongs (string_bytes path)) walk.new.paths.items) }
     ensures nearer { OnOk result (vec_len walk.new.folders + (MAX_ENTRIES - walk.new.met)
         ≤ vec_len walk.old.folders + (MAX_ENTRIES - walk.old.met)) }
 {
     let entry = entry?;
+    visit_named(alloc, folder, entry.file_name(), entry.file_type(), walk)
+}
+
+/// Meets an entry of a folder by its name and its kind, which may be an error. It is passed over
+/// where no path that belongs can stand under its name, whatever it is. One entry more than
+/// [`MAX_ENTRIES`] is a fault.
+pub(crate) fn visit_named(
+    alloc: Global,
+    folder: &str,
+    name: &str,
+    kind: io::Result<FileType>,
+    walk: &mut Walk,
+) -> Result<(), IoFail>
+    requires met { walk.old.met ≤ MAX_ENTRIES }
+    requires belong { All (λ path. Belongs (string_bytes path)) walk.old.paths.items }
+    ensures full { walk.old.met ≡ MAX_ENTRIES → result ≡ Err IoFail.Failed }
+    ensures no_kind { walk.old.met < MAX_ENTRIES → MayLead name.now
+        → IfErr kind (λ error. IsErrAnd result (IsFailOf error)) }
+    ensures folder { MayLead name.now → IfOk kind (λ kind. IsDir kind
+        → OnOk result (map string_bytes walk.new.folders.items
+        ≡ map string_bytes walk.old.folders.items ++ joined folder.now name.now ∷ [])) }
+    ensures file { MayLead name.now → Belongs (joined folder.now name.now)
+        → IfOk kind (λ kind. ¬ IsDir kind
+        → OnOk result (map string_bytes walk.new.paths.items
+        ≡ map string_bytes walk.old.paths.items ++ joined folder.now name.now ∷ [])) }
+    ensures passed_over { ¬ MayLead name.now
+        → (walk.new.folders ≡ walk.old.folders) × (walk.new.paths ≡ walk.old.paths) }
+    ensures met { OnOk result (walk.new.met ≡ walk.old.met + 1) }
+    ensures in_reach { OnOk result (walk.new.met ≤ MAX_ENTRIES) }
+    ensures belong { OnOk result (All (λ path. Belongs (string_bytes path)) walk.new.paths.items) }
+    ensures folders { OnOk result (vec_len walk.new.folders ≤ vec_len walk.old.folders + 1) }
+{
     if walk.met == MAX_ENTRIES {
         return Err(IoFail::Failed);
     }
     walk.met += 1;
-    if may_lead(entry.file_name()) {
-        let is_folder = is_folder(entry.file_type())?;
-        meet(join(alloc, folder, entry.file_name())?, is_folder, walk)?;
+    if may_lead(name) {
+        let is_folder = is_folder(kind)?;
+        meet(join(alloc, folder, name)?, is_folder, walk)?;
     }
     Ok(())
 }

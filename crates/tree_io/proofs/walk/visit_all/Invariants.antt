@@ -1,7 +1,7 @@
 use Rattle.std.proofs.Common.{◌+◌, ◌-◌, ◌≤◌, All, string_bytes, vec_len}
 use Rattle.tree_io.specs.Path.{Belongs}
 use Rattle.tree_io.specs.declared.walk.TheConstants.{MAX_ENTRIES}
-use Rattle.tree_io.proofs.walk.walk_folder.Given as goal
+use Rattle.tree_io.proofs.walk.visit_all.Given as goal
 
 abbrev pub invariant-loop-entry : goal.invariant-loop-entry
 invariant-loop-entry g l =
