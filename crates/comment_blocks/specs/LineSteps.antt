@@ -1,5 +1,5 @@
 -- The texts of lines, and how far an indented span goes. Only contracts of private functions and
--- proofs cite these.
+-- proofs cite these, but for `one_further`, which the definitions of links in texts use too.
 use Rattle.std.specs.Prelude.{ℕ, ◌+◌, ◌&&◌, Bool, true, false, not, Option, Some, None, List, []}
 use Rattle.std.specs.Prelude.{◌∷◌, ◌++◌, map, if◌then◌else◌, ◌==◌}
 use Rattle.std.specs.Borrow.{Bor}

@@ -36,7 +36,8 @@ fn tokens_in(tokens: &[Token], run: TokenRange) -> &[Token]
 
 /// The value of the expression that tokens are, or `None` where there is none.
 fn run_value(alloc: Global, source: &[u8], tokens: &[Token], names: &Names) -> Mem<Option<i128>>
-    ensures { IfOk result (λ found. found ≡ run_value (names_of names.now) (texts_of source.now tokens.now)) }
+    ensures { IfOk result
+        (λ found. found ≡ run_value (names_of names.now) (texts_of source.now tokens.now)) }
 {
     let mut machine = Machine::new(alloc);
     for token in tokens {
@@ -86,7 +87,8 @@ pub fn length(
     run: TokenRange,
     consts: &Constants,
 ) -> Mem<Length>
-    ensures { IfOk result (IsLength (texts_of source.now (tokens_in run scanned.now.tokens)) consts.now) }
+    ensures { IfOk result
+        (IsLength (texts_of source.now (tokens_in run scanned.now.tokens)) consts.now) }
 {
     let tokens = tokens_in(scanned.tokens.as_slice(), run);
     let names = Names {

@@ -65,7 +65,8 @@ fn counts_of(alloc: Global, specs: &[ConstFact]) -> Mem<Counts>
 /// The value that a constant has now, where it is the only one of its name and none is known yet.
 fn news_of(alloc: Global, fact: &ConstFact, counts: &Counts, values: &Values) -> Mem<Option<i128>>
     ensures { IfOk result (λ found. found
-        ≡ news_from (unwrap_or (get_by_text counts.now fact.now.name) 0) (get_by_text values.now) fact.now) }
+        ≡ news_from (unwrap_or (get_by_text counts.now fact.now.name) 0)
+        (get_by_text values.now) fact.now) }
 {
     let name = fact.name.as_str();
     if counts.get(name).copied().unwrap_or(0) != 1 {

@@ -95,7 +95,8 @@ impl Machine {
     /// What is left is kept, where there is something.
     fn keep(&mut self, found: Option<(usize, Value)>) -> bool
         requires { AreWithin self.old.frames.items found }
-        ensures { Steps (left_of self.old.frames.items found |> having) result (state_of self.new.frames.items self.new.operand) }
+        ensures { Steps (left_of self.old.frames.items found |> having) result
+            (state_of self.new.frames.items self.new.operand) }
     {
         let Some((count, operand)) = found else {
             return false;
@@ -107,7 +108,9 @@ impl Machine {
 
     /// A frame waits for its operand.
     fn wait(&mut self, frame: Frame<Value>) -> Mem<bool>
-        ensures { IfOk result (λ went. Steps (Some (frame ∷ reverse self.old.frames.items, None)) went (state_of self.new.frames.items self.new.operand)) }
+        ensures { IfOk result (λ went.
+            Steps (Some (frame ∷ reverse self.old.frames.items, None)) went
+            (state_of self.new.frames.items self.new.operand)) }
     {
         self.frames.push(frame)?;
         self.operand = None;
@@ -117,7 +120,8 @@ impl Machine {
     /// The product is added to the sum that waits for it.
     fn settle(&mut self, operand: Value) -> Option<Value>
         ensures { MatchOption result (settle values (reverse self.old.frames.items) operand ≡ None)
-            (λ sum. settle values (reverse self.old.frames.items) operand ≡ Some (reverse self.new.frames.items, sum)) }
+            (λ sum. settle values (reverse self.old.frames.items) operand
+            ≡ Some (reverse self.new.frames.items, sum)) }
     {
         let (count, sum) = settle(&self.frames, operand)?;
         self.frames.truncate(count);
@@ -127,7 +131,8 @@ impl Machine {
     /// Takes a token where an operand may begin; whether it may stand there and has a value.
     fn begin(&mut self, text: &[u8], names: &Names) -> Mem<bool>
         ensures { IfOk result (λ went. Steps
-            (begin values (operand_value (names_of names.now)) (reverse self.old.frames.items) text.now (lexemes.lexeme_of text.now))
+            (begin values (operand_value (names_of names.now)) (reverse self.old.frames.items)
+            text.now (lexemes.lexeme_of text.now))
             went (state_of self.new.frames.items self.new.operand)) }
     {
         match lexeme_of(text) {
@@ -148,7 +153,8 @@ impl Machine {
 
     /// Takes a token after an operand; whether it may stand there and has a value.
     fn go_on(&mut self, operand: Value, lexeme: Lexeme) -> Mem<bool>
-        ensures { IfOk result (λ went. Steps (go_on values (reverse self.old.frames.items) operand lexeme)
+        ensures { IfOk result (λ went.
+            Steps (go_on values (reverse self.old.frames.items) operand lexeme)
             went (state_of self.new.frames.items self.new.operand)) }
     {
         match lexeme {
@@ -173,7 +179,8 @@ impl Machine {
     /// Takes the next token; whether the tokens so far may begin an expression that has a value.
     pub fn take(&mut self, text: &[u8], names: &Names) -> Mem<bool>
         ensures { IfOk result (λ went. Steps
-            (step values (operand_value (names_of names.now)) (state_of self.old.frames.items self.old.operand) text.now)
+            (step values (operand_value (names_of names.now))
+            (state_of self.old.frames.items self.old.operand) text.now)
             went (state_of self.new.frames.items self.new.operand)) }
     {
         match self.operand {

@@ -48,7 +48,8 @@ fn in_place(
     requires few { length tokens.now < 2 ^ 32 }
     requires chunk { IsChunk source.now tokens.now chunk.now }
     ensures { IfOk result (λ o. MatchOption o
-        ((decl : Decl) → IsInPlace others (words_of source.now tokens.now chunk.now.tokens) decl → ⊥)
+        ((decl : Decl)
+        → IsInPlace others (words_of source.now tokens.now chunk.now.tokens) decl → ⊥)
         (λ decl. IsInPlace others (words_of source.now tokens.now chunk.now.tokens) decl)) }
 {
     match decl_in(alloc, source, tokens, chunk)? {

@@ -28,7 +28,8 @@ pub fn resolve_name(
     qualifier: &str,
     name: &str,
 ) -> Mem<Target>
-    ensures { IfOk result (λ target. target ≡ target_of world.now «package» file qualifier.now name.now) }
+    ensures { IfOk result
+        (λ target. target ≡ target_of world.now «package» file qualifier.now name.now) }
 {
     if qualifier.is_empty() {
         return unqualified(alloc, world, package, name);
@@ -69,7 +70,8 @@ fn path_of(world: &World, package: u32) -> &str
 /// The first import of a file with a local name.
 fn import_at<'a>(world: &'a World, package: u32, file: u32, name: &str) -> Option<&'a Import>
     ensures { option_copied result ≡ find
-        (λ import. bytes_eq name.now (local_name world.now import)) (imports_of world.now «package» file) }
+        (λ import. bytes_eq name.now (local_name world.now import))
+        (imports_of world.now «package» file) }
 {
     match world.import_place(package, file, name) {
         Some(place) => import_in(world.packages(), package, file, place),

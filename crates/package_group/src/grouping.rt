@@ -89,7 +89,8 @@ fn make_packages(
 ) -> Mem<Seq<Package>>
     ensures ordered { OnOk result (IsOrdered string_cmp folders.now) }
     ensures packages { IfOk result (λ packages. packages
-        ≡ map (λ folder. package_of (string_bytes folder.0) (map seen folder.1.items)) folders.now.entries) }
+        ≡ map (λ folder. package_of (string_bytes folder.0) (map seen folder.1.items))
+        folders.now.entries) }
 {
     let mut packages = Seq::new(alloc);
     for (path, members) in folders.iter() {
@@ -114,7 +115,8 @@ fn make_package(alloc: Global, path: &str, members: &[(u32, &FileFact)]) -> Mem<
 
 /// The folder of files that have one folder.
 fn dir_of<'a>(members: &'a [(u32, &'a FileFact)]) -> &'a str
-    ensures { result.now ≡ option_map_or (λ member. folder_of member.1.now.path) (slice_get members.now 0) [] }
+    ensures { result.now
+        ≡ option_map_or (λ member. folder_of member.1.now.path) (slice_get members.now 0) [] }
 {
     match members.first() {
         Some((_, file)) => folder_of(file.path.as_str()),
@@ -157,7 +159,8 @@ fn name_by_path(alloc: Global, packages: &[Package]) -> Mem<BTreeMap<String, Str
     ensures paths { IfOk result (λ names. (path : List ℕ) → is_some (get_by_text names path)
         ≡ list_any (λ p. bytes_eq path p.path) packages.now) }
     ensures names { IfOk result (λ names. (path : List ℕ) → IfSome (get_by_text names path)
-        (λ name. Contains {X = List ℕ × List ℕ} (map (λ p. (p.path, p.name)) packages.now) (path, string_bytes name))) }
+        (λ name. Contains {X = List ℕ × List ℕ} (map (λ p. (p.path, p.name)) packages.now)
+        (path, string_bytes name))) }
 {
     let mut names = BTreeMap::new(alloc);
     for package in packages {
@@ -186,7 +189,8 @@ fn find_others(
     names: &BTreeMap<String, String>,
 ) -> Mem<Seq<u32>>
     ensures { IfOk result (λ others. others ≡ map (λ p. p.1.0)
-        (filter (λ p. is_beside (option_map string_bytes (get_by_text names.now (string_bytes p.0))) p.1.1.now) placed.now)) }
+        (filter (λ p. is_beside (option_map string_bytes (get_by_text names.now (string_bytes p.0)))
+        p.1.1.now) placed.now)) }
 {
     let mut others = Seq::new(alloc);
     for (path, (place, file)) in placed {

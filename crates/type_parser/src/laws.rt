@@ -55,5 +55,6 @@ pub fn type_params_spelled_once()
 pub fn cut_where_enclosed()
     ensures { (opening close : Mark) (o : Word) (words inner rest : List Word) → o.mark ≡ opening
         → closes close ≡ true
-        → (enclosed close words ≡ Some (inner, rest)) ↔ Encloses opening close (o ∷ words) inner rest }
+        → (enclosed close words ≡ Some (inner, rest))
+        ↔ Encloses opening close (o ∷ words) inner rest }
 {}
