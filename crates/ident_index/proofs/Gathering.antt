@@ -1,16 +1,16 @@
 -- The hits that are gathered under names.
 use Rattle.std.proofs.Common.{◌≡◌, ℕ, Bool, true, false, ◌||◌, Bor, List, [], ◌∷◌, ◌++◌, cond, if◌then◌else◌, map, filter, length, take, get_or, ◌<◌, ◌+◌, refl, sym, ap, ◌∙◌, append_assoc, append-nil}
-use Rattle.std.specs.List.{list_any}
+use Rattle.std.specs.List.{list_any, flat_map}
 use Rattle.std.specs.HashMap.{HashMap}
 use Rattle.std.specs.Global.{Vec}
 use Rattle.std.specs.Str.{bytes_eq}
 use Rattle.std.proofs.lemmas.List.{map-append}
 use Rattle.std.proofs.lemmas.List.Elements.{filter-append}
-use Rattle.std.proofs.lemmas.List.Folds.{list_any-append}
-use Rattle.std.proofs.lemmas.Grind.{take_at_read}
+use Rattle.std.proofs.lemmas.List.Folds.{list_any-append, flat_map-map}
+use Rattle.std.proofs.lemmas.Grind.{take_at_read, flat_map-append}
 use Rattle.ident_index.specs.declared.hit.Hit.{Hit}
 use Rattle.ident_index.specs.declared.hit.HitFile.{HitFile}
-use Rattle.ident_index.specs.Postings.{NamedHit, hits_named, named_of, named_of_all}
+use Rattle.ident_index.specs.Postings.{NamedHit, hits_named, named_of, named_of_all, source_and_hits}
 use Rattle.ident_index.specs.Tables.{HasGroups, has_group, hits_in}
 
 hits_named-append : (q : List ℕ) (xs ys : List NamedHit) → hits_named q (xs ++ ys) ≡ hits_named q xs ++ hits_named q ys
@@ -40,15 +40,15 @@ gathered_more old new named n gathered hits names = record {
       ∙ list_any-append (bytes_eq q) (map (λ (m : NamedHit). m.name) named) (n.name ∷ []));
 }
 
-named_of_all-push : (files : List HitFile) (file : HitFile) → named_of_all (files ++ file ∷ []) ≡ named_of_all files ++ named_of file
-named_of_all-push [] file = append-nil (named_of file)
-named_of_all-push (f ∷ fs) file =
-    ap (λ ns. named_of f ++ ns) (named_of_all-push fs file) ∙ sym (append_assoc (named_of f) (named_of_all fs) (named_of file))
-
 -- the hits of one file more
 pub named_more : (files : List HitFile) (i : ℕ) (file : HitFile) → i < length files → file ≡ get_or files i file
-    → named_of_all (take (i + 1) files) ≡ named_of_all (take i files) ++ named_of file
+    → named_of_all (map source_and_hits (take (i + 1) files)) ≡ named_of_all (map source_and_hits (take i files)) ++ named_of file.source.now file.hits.now
 named_more files i file within is =
+    let named : HitFile → List NamedHit = λ f. named_of f.source.now f.hits.now in
     let more : take (i + 1) files ≡ take i files ++ file ∷ [] =
     (take_at_read files i file within).1 ∙ ap (λ (f : HitFile). take i files ++ f ∷ []) (sym is) in
-    ap named_of_all more ∙ named_of_all-push (take i files) file
+    let flat : (fs : List HitFile) → named_of_all (map source_and_hits fs) ≡ flat_map named fs =
+    flat_map-map (λ s. named_of s.0 s.1) source_and_hits in
+    flat (take (i + 1) files) ∙ ap (flat_map named) more ∙ flat_map-append named (take i files) (file ∷ [])
+    ∙ ap (λ ns. ns ++ (named file ++ [])) (sym (flat (take i files)))
+    ∙ ap (λ ns. named_of_all (map source_and_hits (take i files)) ++ ns) (append-nil (named file))

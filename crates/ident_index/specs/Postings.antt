@@ -1,7 +1,7 @@
 -- The identifiers of files by their names. Public clauses cite these.
 use Rattle.std.specs.Prelude.{◌≡◌, ◌↔◌, ℕ, List, [], ◌∷◌, ◌++◌, drop, filter, map, All, AllPairs}
 use Rattle.std.specs.Prelude.{Contains, IsUtf8}
-use Rattle.std.specs.List.{find}
+use Rattle.std.specs.List.{find, flat_map}
 use Rattle.std.specs.Option.{option_map_or}
 use Rattle.std.specs.Ordering.{nat_cmp}
 use Rattle.std.specs.Cmp.Lexicographic.{slice_cmp}
@@ -17,23 +17,26 @@ name_at source offset = word_at (drop offset source)
 
 -- the name of each hit lies in the source: the source is UTF-8, and a character begins at the
 -- offset of each hit
-pub record HasNames (file : HitFile) : Type 0 where
-  pub utf8 : IsUtf8 file.source
-  pub begin : All (λ hit. IsCharBoundary file.source hit.offset) file.hits
+pub record HasNames (source : List ℕ) (hits : List Hit) : Type 0 where
+  pub utf8 : IsUtf8 source
+  pub begin : All (λ hit. IsCharBoundary source hit.offset) hits
 
 -- a hit with its name
 pub record NamedHit : Type 0 where
   pub name : List ℕ
   pub hit : Hit
 
--- the hits of a file, in their order, with their names
-abbrev pub named_of : HitFile → List NamedHit
-named_of file = map (λ hit. record { name = name_at file.source hit.offset; hit = hit }) file.hits
+-- the hits of a source, in their order, with their names
+abbrev pub named_of : List ℕ → List Hit → List NamedHit
+named_of source hits = map (λ hit. record { name = name_at source hit.offset; hit = hit }) hits
 
--- the hits of all files, in their order, with their names
-abbrev pub named_of_all : List HitFile → List NamedHit
-named_of_all [] = []
-named_of_all (file ∷ files) = named_of file ++ named_of_all files
+-- the hits of all these sources, each of which stands beside its hits, with their names
+abbrev pub named_of_all : List (List ℕ × List Hit) → List NamedHit
+named_of_all sources = flat_map (λ s. named_of s.0 s.1) sources
+
+-- the source and the hits of a file
+abbrev pub source_and_hits : HitFile → List ℕ × List Hit
+source_and_hits file = (file.source.now, file.hits.now)
 
 -- those of one name
 abbrev pub hits_named : List ℕ → List NamedHit → List Hit

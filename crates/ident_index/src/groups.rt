@@ -4,6 +4,7 @@ ghost use Rattle.std.specs.Prelude.{◌≡◌, ◌++◌, [], ◌∷◌, ℕ, ◌
 ghost use Rattle.std.specs.Prelude.{drop, is_some, if◌then◌else◌, map};
 ghost use Rattle.std.specs.Str.{IsCharBoundary, bytes_eq};
 ghost use Rattle.ident_index.specs.Postings.{HasNames, NamedHit, name_at, named_of, named_of_all};
+ghost use Rattle.ident_index.specs.Postings.{source_and_hits};
 ghost use Rattle.ident_index.specs.Tables.{HasGroups, has_group, hits_in};
 
 use crate::hit::{Hit, HitFile};
@@ -36,28 +37,29 @@ fn add_hit<'a>(groups: &mut Groups<'a>, name: &'a str, hit: Hit) -> Mem<()>
 }
 
 /// Adds the hits of a file.
-fn add_file<'a>(groups: &mut Groups<'a>, file: &'a HitFile) -> Mem<()>
-    requires { HasNames file.now }
+fn add_file<'a>(groups: &mut Groups<'a>, source: &'a [u8], hits: &[Hit]) -> Mem<()>
+    requires { HasNames source.now hits.now }
     ensures { OnOk result ((before : List NamedHit) → HasGroups groups.old before
-        → HasGroups groups.new (before ++ named_of file.now)) }
+        → HasGroups groups.new (before ++ named_of source.now hits.now)) }
 {
-    let Ok(text) = str::from_utf8(file.source.as_slice()) else {
+    let Ok(text) = str::from_utf8(source) else {
         return Ok(());
     };
-    for hit in file.hits.as_slice() {
+    for hit in hits {
         add_hit(groups, name_at(text, hit.offset), *hit)?;
     }
     Ok(())
 }
 
 /// The hits of all files by their names.
-pub(crate) fn group_hits<'a>(alloc: Global, files: &'a [HitFile]) -> Mem<Groups<'a>>
-    requires { All HasNames files.now }
-    ensures { IfOk result (λ groups. HasGroups groups (named_of_all files.now)) }
+pub(crate) fn group_hits<'a>(alloc: Global, files: &[HitFile<'a>]) -> Mem<Groups<'a>>
+    requires { All (λ file. HasNames file.source.now file.hits.now) files.now }
+    ensures { IfOk result
+        (λ groups. HasGroups groups (named_of_all (map source_and_hits files.now))) }
 {
     let mut groups = HashMap::new(alloc);
     for file in files {
-        add_file(&mut groups, file)?;
+        add_file(&mut groups, file.source, file.hits)?;
     }
     Ok(groups)
 }

@@ -1,7 +1,5 @@
 //! Identifiers where they stand in the files of a tree.
 
-use plain_data::{Bytes, Seq};
-
 /// What an identifier is, by the place where it stands.
 #[derive(Clone, Copy, Debug, PartialEq, Eq, PartialOrd, Ord)]
 pub enum HitKind {
@@ -36,11 +34,11 @@ pub struct Hit {
     pub kind: HitKind,
 }
 
-/// A file with its identifiers.
-#[derive(Debug, Drop)]
-pub struct HitFile {
+/// A file with its identifiers, both borrowed.
+#[derive(Clone, Copy, Debug)]
+pub struct HitFile<'a> {
     /// The bytes of the file.
-    pub source: Bytes,
+    pub source: &'a [u8],
     /// The identifiers, in source order.
-    pub hits: Seq<Hit>,
+    pub hits: &'a [Hit],
 }

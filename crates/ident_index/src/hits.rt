@@ -5,7 +5,7 @@ ghost use Rattle.std.specs.List.Sorted.{IsNonDecreasingBy};
 ghost use Rattle.go_ast.specs.declared.token.TheConstants.{MAX_SOURCE_BYTES};
 ghost use Rattle.go_ast.specs.Position.{line_starts};
 ghost use Rattle.go_scanner.specs.Answers.{AreInOrder};
-ghost use Rattle.ident_index.specs.Hits.{AreHitsOf, IsKindAt};
+ghost use Rattle.ident_index.specs.Hits.{hits_of, kind_at};
 ghost use Rattle.ident_index.specs.Naming.{Name, names_of_file};
 ghost use Rattle.ident_index.specs.Places.{AreLinesTo, AreNamesBefore};
 
@@ -49,7 +49,7 @@ fn kind_at(names: &[Name], before: usize, offset: u32) -> HitKind
     requires so_many { AreNamesBefore names.now offset before }
     requires no_more { (d : Name) → before < length names.now
         → offset ≤ (slice_index_or names.now before d).0 }
-    ensures { IsKindAt names.now offset result }
+    ensures { result ≡ kind_at names.now offset }
 {
     if before < names.len() && names[before].0 == offset {
         names[before].1
@@ -97,7 +97,7 @@ pub fn hits_of(
     requires size { length source.now ≤ MAX_SOURCE_BYTES }
     requires lines { scanned.now.lines ≡ line_starts source.now }
     requires spans { AreInOrder 0 scanned.now.tokens (length source.now) }
-    ensures { IfOk result (AreHitsOf source.now scanned.now.tokens file.now number) }
+    ensures { IfOk result (λ hits. hits ≡ hits_of source.now scanned.now.tokens file.now number) }
 {
     let names = sorted_names(alloc, file)?;
     let starts = scanned.lines.as_slice();

@@ -7,7 +7,7 @@ ghost use Rattle.std.specs.List.{sum_by};
 ghost use Rattle.std.specs.Ordering.{nat_cmp};
 ghost use Rattle.std.specs.declared.cmp.Ordering.TheVariants.{Less};
 ghost use Rattle.ident_index.specs.Postings.{HasNames, IsTableOf, NamedHit, Posting, hits_at};
-ghost use Rattle.ident_index.specs.Postings.{hits_named, named_of_all};
+ghost use Rattle.ident_index.specs.Postings.{hits_named, named_of_all, source_and_hits};
 ghost use Rattle.ident_index.specs.Tables.{IsBuilt, has_group, hits_in};
 
 use crate::groups::{Groups, group_hits};
@@ -124,8 +124,9 @@ impl Postings {
     /// # Errors
     /// `NoMemory` where an allocation was refused.
     pub fn build(alloc: Global, files: &[HitFile]) -> Mem<Postings>
-        requires { All HasNames files.now }
-        ensures { IfOk result (λ postings. IsTableOf (named_of_all files.now) postings) }
+        requires { All (λ file. HasNames file.source.now file.hits.now) files.now }
+        ensures { IfOk result
+            (λ postings. IsTableOf (named_of_all (map source_and_hits files.now)) postings) }
     {
         let groups = group_hits(alloc, files)?;
         let names = sorted_names(alloc, &groups)?;
