@@ -1,18 +1,75 @@
--- What stands among sorted names at an offset.
-use Rattle.std.proofs.Common.{◌≡◌, ◌<◌, ℕ, List, Contains, length, get_or, ap, arith, inl, inr}
-use Rattle.std.specs.List.Sorted.{IsNonDecreasingBy}
+-- What the first of some names at an offset is.
+use Rattle.std.proofs.Common.{◌≡◌, ◌<◌, ◌≤◌, ℕ, zero, suc, Bool, true, false, cond, List, [], ◌∷◌, Some, None, All, filter, length, get_or, refl, sym, ap, ◌∙◌, arith, inl, inr}
+use Rattle.std.specs.Prelude.{◌==◌}
+use Rattle.std.specs.List.{find}
+use Rattle.std.specs.List.Sorted.{IsNonDecreasingBy, IsStableByKey, ties}
+use Rattle.std.specs.Option.{option_map_or}
+use Rattle.std.specs.Ordering.{is_lt, nat_cmp}
 use Rattle.std.proofs.lemmas.Bool.{cases_lt}
+use Rattle.std.proofs.lemmas.Bool.Decides.{nat_tests}
+use Rattle.std.proofs.lemmas.List.Elements.{filter_agree}
 use Rattle.ident_index.specs.declared.hit.HitKind.{HitKind}
+use Rattle.ident_index.specs.declared.hit.HitKind.TheVariants.{Usage}
+use Rattle.ident_index.specs.Hits.{kind_at}
 use Rattle.ident_index.specs.Naming.{Name}
 use Rattle.ident_index.specs.Places.{AreNamesBefore}
 
--- where the first name that isn't before an offset isn't there, none is
-pub none_there : (names : List Name) (offset before : ℕ) → IsNonDecreasingBy (λ (n : Name). n.0) names → AreNamesBefore names offset before
-    → ((d : Name) → before < length names → offset < (get_or names before d).0)
-    → (kind : HitKind) → Contains names (offset, kind) → ⊥
-none_there names offset before rising so_many beyond kind there =
-    let at : (get_or names there.0 (offset, kind)).0 ≡ offset = ap (λ (n : Name). n.0) there.2 in
-    elim (cases_lt there.0 before) [
-      | inl less ↦ absurd (omega (arith, so_many.before there.0 (offset, kind) less, at))
-      | inr more ↦ absurd (omega (arith, beyond (offset, kind) (omega (arith, there.1)), rising before there.0 (offset, kind) more there.1, at))
-    ]
+module _ {X : Type 0} (p : X → Bool) where
+  find-at : (xs : List X) (i : ℕ) (d : X) → i < length xs → p (get_or xs i d) ≡ true → ((k : ℕ) → k < i → p (get_or xs k d) ≡ false)
+      → find p xs ≡ Some (get_or xs i d)
+  find-at [] i d h passes fails = absurd (omega arith)
+  find-at (x ∷ xs) zero d h passes fails = ap (λ b. cond b (Some x) (find p xs)) passes
+  find-at (x ∷ xs) (suc i) d h passes fails =
+      ap (λ b. cond b (Some x) (find p xs)) (fails 0 (omega arith))
+      ∙ find-at xs i d (omega arith) passes (λ k l. fails (suc k) (omega arith))
+
+  find-nowhere : (xs : List X) → All (λ x. p x ≡ false) xs → find p xs ≡ None
+  find-nowhere [] h = refl
+  find-nowhere (x ∷ xs) h =
+      ap (λ b. cond b (Some x) (find p xs)) (h 0 x (omega arith)) ∙ find-nowhere xs (λ k d l. h (suc k) d (omega arith))
+
+  -- the first that passes is the first of those that pass
+  find-filter : (xs : List X) → find p xs ≡ find p (filter p xs)
+  find-filter [] = refl
+  find-filter (x ∷ xs) =
+      elim (p x) as (λ b. p x ≡ b → cond b (Some x) (find p xs) ≡ find p (cond b (x ∷ filter p xs) (filter p xs))) [
+        | true ↦ λ passes. sym (ap (λ b. cond b (Some x) (find p (filter p xs))) passes)
+        | false ↦ λ fails. find-filter xs
+      ] refl
+
+abbrev stands_at : ℕ → Name → Bool
+stands_at offset name = name.0 == offset
+
+module _ (names : List Name) (offset before : ℕ) (so_many : AreNamesBefore names offset before) where
+  earlier : (k : ℕ) (d : Name) → k < before → stands_at offset (get_or names k d) ≡ false
+  earlier k d h = let less = so_many.before k d h in grind (arith, nat_tests, less)
+
+  -- the first name that isn't before the offset stands there
+  pub first_there : (d : Name) → before < length names → (get_or names before d).0 ≡ offset → (get_or names before d).1 ≡ kind_at names offset
+  first_there d within there =
+      let passes : stands_at offset (get_or names before d) ≡ true = grind (arith, nat_tests, there) in
+      sym (ap (λ o. option_map_or (λ (n : Name). n.1) o Usage) (find-at (stands_at offset) names before d within passes (λ k h. earlier k d h)))
+
+  -- the first name that isn't before the offset, if any, stands beyond it
+  pub none_there : IsNonDecreasingBy (λ (n : Name). n.0) names → ((d : Name) → before < length names → offset < (get_or names before d).0)
+      → Usage ≡ kind_at names offset
+  none_there rising beyond =
+      let nowhere : All (λ n. stands_at offset n ≡ false) names = λ k d h. elim (cases_lt k before) [
+        | inl less ↦ earlier k d less
+        | inr more ↦
+            let far = beyond d (omega (arith, more, h)) in
+            let up = rising before k d more h in
+            grind (arith, nat_tests, far, up)
+      ] in
+      sym (ap (λ o. option_map_or (λ (n : Name). n.1) o Usage) (find-nowhere (stands_at offset) names nowhere))
+
+ties_there : (offset : ℕ) (n : Name) → ties (λ (x y : Name). is_lt (nat_cmp x.0 y.0)) (offset, Usage) n ≡ stands_at offset n
+ties_there offset n = grind (arith, nat_tests)
+
+-- a stable sort by the offsets keeps which is the first at an offset
+pub kind_sorted : (names sorted : List Name) (offset : ℕ) → IsStableByKey (λ (n : Name). n.0) nat_cmp names sorted → kind_at sorted offset ≡ kind_at names offset
+kind_sorted names sorted offset stable =
+    let agree = filter_agree (ties (λ (x y : Name). is_lt (nat_cmp x.0 y.0)) (offset, Usage)) (stands_at offset) (ties_there offset) in
+    let same : filter (stands_at offset) sorted ≡ filter (stands_at offset) names = sym (agree sorted) ∙ stable (offset, Usage) ∙ agree names in
+    ap (λ o. option_map_or (λ (n : Name). n.1) o Usage)
+    (find-filter (stands_at offset) sorted ∙ ap (find (stands_at offset)) same ∙ sym (find-filter (stands_at offset) names))

@@ -1,12 +1,9 @@
 -- What a pass over the tokens of a source keeps: the lines and the names before its place, and the hits
 -- so far.
-use Rattle.std.proofs.Common.{◌≡◌, ℕ, ◌+◌, ◌-◌, ◌<◌, ◌≤◌, zero, suc, Bool, true, false, cond, List, [], ◌∷◌, ◌++◌, length, get_or, take, drop, filter, refl, sym, ap, ◌∙◌, subst, arith, inl, inr, append-nil, IsPermutation}
+use Rattle.std.proofs.Common.{◌≡◌, ℕ, ◌+◌, ◌-◌, ◌<◌, ◌≤◌, zero, suc, Bool, true, false, cond, List, [], ◌∷◌, ◌++◌, length, get_or, take, drop, filter, refl, sym, ap, ◌∙◌, subst, arith, append-nil, map}
 use Rattle.std.specs.Prelude.{◌==◌, if◌then◌else◌}
-use Rattle.std.specs.List.{AllZip}
-use Rattle.std.proofs.lemmas.List.{drop_more}
+use Rattle.std.proofs.lemmas.List.{drop_more, map-append}
 use Rattle.std.proofs.lemmas.List.Elements.{filter_more}
-use Rattle.std.proofs.lemmas.Slice.Zip.{all_zipped_more}
-use Rattle.std.proofs.lemmas.List.Sorted.{Contains-permutation, IsPermutation-sym}
 use denote.Enum.Bare.{sameb}
 use Rattle.go_ast.specs.declared.token.Token.{Token}
 use Rattle.go_ast.specs.declared.token.TokenKind.{TokenKind}
@@ -17,8 +14,6 @@ use Rattle.go_ast.specs.Characters.{newline}
 use Rattle.go_ast.specs.Position.{line_of, line_starts, offsets_after_newlines}
 use Rattle.go_scanner.specs.Answers.{AreInOrder}
 use Rattle.go_scanner.proofs.ScanLaws.{position_is}
-use Rattle.ident_index.specs.declared.hit.HitKind.{HitKind}
-use Rattle.ident_index.specs.Hits.{IsKindAt}
 use Rattle.ident_index.specs.Naming.{Name}
 use Rattle.ident_index.specs.Places.{AreLinesTo, AreNamesBefore}
 
@@ -61,14 +56,6 @@ line_counted bytes offset (suc n) within so_many no_more =
       column_is = omega (arith, before);
     })).0
 
--- what an identifier is doesn't depend on the order of the names
-pub kind_reordered : (names sorted : List Name) (offset : ℕ) (kind : HitKind) → IsPermutation names sorted → IsKindAt sorted offset kind
-    → IsKindAt names offset kind
-kind_reordered names sorted offset kind same at = elim at [
-  | inl there ↦ inl (Contains-permutation sorted names (offset, kind) (IsPermutation-sym names sorted same) there)
-  | inr none ↦ inr (none.0, λ other there. none.1 other (Contains-permutation names sorted (offset, other) same there))
-]
-
 -- what follows the token at a place
 pub record IsNext (tokens : List Token) (i from to : ℕ) (token : Token) : Type 0 where
   pub begins : from ≤ token.span.start
@@ -85,20 +72,19 @@ pub order_within : (tokens : List Token) (from to : ℕ) → AreInOrder from tok
 order_within [] from to order = order
 order_within (token ∷ tokens) from to order = omega (arith, order.0, order.1, order_within tokens token.span.end to order.2)
 
-module _ {X Y : Type 0} (R : X → Y → Type 0) (p : X → Bool) (xs : List X) (i : ℕ) (d : X) (ys : List Y) (below : i < length xs)
-    (so_far : AllZip R (filter p (take i xs)) ys) where
-  pub zip_passing : (y : Y) → p (get_or xs i d) ≡ true → R (get_or xs i d) y → AllZip R (filter p (take (i + 1) xs)) (ys ++ y ∷ [])
-  zip_passing y passes related =
-      subst (λ l. AllZip R l (ys ++ y ∷ []))
-      (sym (filter_more p xs i d below ∙ ap (λ b. filter p (take i xs) ++ cond b (get_or xs i d ∷ []) []) passes))
-      (all_zipped_more R (filter p (take i xs)) ys (get_or xs i d) y so_far related)
+module _ {X Y : Type 0} (f : X → Y) (p : X → Bool) (xs : List X) (i : ℕ) (d : X) (ys : List Y) (below : i < length xs)
+    (so_far : ys ≡ map f (filter p (take i xs))) where
+  more : (b : Bool) → p (get_or xs i d) ≡ b → map f (filter p (take (i + 1) xs)) ≡ ys ++ map f (cond b (get_or xs i d ∷ []) [])
+  more b is =
+      ap (map f) (filter_more p xs i d below ∙ ap (λ c. filter p (take i xs) ++ cond c (get_or xs i d ∷ []) []) is)
+      ∙ map-append f (filter p (take i xs)) (cond b (get_or xs i d ∷ []) [])
+      ∙ ap (λ l. l ++ map f (cond b (get_or xs i d ∷ []) [])) (sym so_far)
 
-  pub zip_passed : p (get_or xs i d) ≡ false → AllZip R (filter p (take (i + 1) xs)) ys
-  zip_passed fails =
-      subst (λ l. AllZip R l ys)
-      (sym (filter_more p xs i d below ∙ ap (λ b. filter p (take i xs) ++ cond b (get_or xs i d ∷ []) []) fails
-      ∙ append-nil (filter p (take i xs))))
-      so_far
+  pub passing : (y : Y) → p (get_or xs i d) ≡ true → y ≡ f (get_or xs i d) → ys ++ y ∷ [] ≡ map f (filter p (take (i + 1) xs))
+  passing y passes is = ap (λ z. ys ++ z ∷ []) is ∙ sym (more true passes)
+
+  pub passed : p (get_or xs i d) ≡ false → ys ≡ map f (filter p (take (i + 1) xs))
+  passed fails = sym (more false fails ∙ append-nil ys)
 
 -- the program's test for identifiers
 pub ident_test : (kind : TokenKind) → sameb the_type kind tokens.Ident ≡ is_ident kind

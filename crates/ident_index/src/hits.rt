@@ -1,6 +1,6 @@
 //! The identifiers of one file.
 
-ghost use Rattle.std.specs.Prelude.{◌≡◌, ◌<◌, ◌≤◌, IfOk, IsPermutation, length, slice_index, slice_index_or};
+ghost use Rattle.std.specs.Prelude.{◌≡◌, ◌<◌, ◌≤◌, ℕ, IfOk, length, slice_index, slice_index_or};
 ghost use Rattle.std.specs.List.Sorted.{IsNonDecreasingBy};
 ghost use Rattle.go_ast.specs.declared.token.TheConstants.{MAX_SOURCE_BYTES};
 ghost use Rattle.go_ast.specs.Position.{line_starts};
@@ -58,10 +58,12 @@ fn kind_at(names: &[Name], before: usize, offset: u32) -> HitKind
     }
 }
 
-/// The names that the declarations of a file declare, by their offsets.
+/// The names that the declarations of a file declare, by their offsets; those at one offset in the
+/// order of the file.
 fn sorted_names(alloc: Global, file: &File) -> Mem<Vec<Name>>
     ensures rising { IfOk result (λ names. IsNonDecreasingBy (λ name. name.0) names.items) }
-    ensures same { IfOk result (λ names. IsPermutation (names_of_file file.now) names.items) }
+    ensures same { IfOk result (λ names. (offset : ℕ)
+        → kind_at names.items offset ≡ kind_at (names_of_file file.now) offset) }
 {
     let mut names = file_names(alloc, file)?;
     names.sort_by_key(|name| name.0)?;

@@ -1,14 +1,12 @@
 use Rattle.std.proofs.Common.{◌≡◌, ◌+◌, length, arith, ap, sym, subst, ◌∙◌, ◌<◌, List, drop, take, filter, get_or, refl, Vec, Global}
-use Rattle.std.specs.List.{AllZip}
 use Rattle.go_ast.specs.declared.token.Token.{Token}
 use Rattle.go_ast.specs.declared.token.TokenKind.TheVariants.{Ident}
-use Rattle.go_ast.specs.Position.{line_starts}
+use Rattle.go_ast.specs.Position.{line_of, line_starts}
 use Rattle.go_ast.specs.Tokens.{is_ident}
-use Rattle.ident_index.specs.Hits.{IsHitOf, IsKindAt}
-use Rattle.ident_index.specs.Naming.{names_of_file}
+use Rattle.ident_index.specs.Hits.{hit_of, kind_at}
 use Rattle.ident_index.specs.declared.hit.Hit.{Hit}
 use Rattle.ident_index.specs.Places.{AreLinesTo, AreNamesBefore}
-use Rattle.ident_index.proofs.Passing.{ident_test, line_counted, kind_reordered, lines_few, lines_on, names_on, next_in_order, order_within, zip_passed, zip_passing}
+use Rattle.ident_index.proofs.Passing.{ident_test, line_counted, lines_few, lines_on, names_on, next_in_order, order_within, passed, passing}
 use Rattle.ident_index.proofs.hits.hits_of.Goals as goal
 use Rattle.ident_index.proofs.hits.hits_of.Goals.{then-eq+in_ok-push, else-eq}
 
@@ -28,7 +26,7 @@ loop-token-preserved c =
     let next = next_in_order tokens i from (length source) d c.loop-token-test.true c.loop-token.invariant.1 in
     let token = get_or tokens i d in
     let test : is_ident token.kind ≡ c.eq.result = sym (c.eq.ensures ∙ ident_test token.kind) in
-    let related = IsHitOf source c.args.file.now c.args.number in
+    let hit : Token → Hit = hit_of source c.args.file.now c.args.number in
     let starts = c.as_slice-starts.result.now in
     let names = c.in_ok-names.names.items in
     elim c.if-eq.branch [
@@ -44,19 +42,15 @@ loop-token-preserved c =
                 (lines_on starts start token.span.end w.lines_to.result next.ends lines),
             subst (λ p. AreNamesBefore names token.span.end p.names) (sym w.passed-is)
                 (names_on names start token.span.end w.names_before.result next.ends before),
-            subst (λ (l : List Hit). AllZip related (filter (λ (token : Token). is_ident token.kind) (take (i + 1) tokens)) l)
-                (sym (ap (λ (v : Vec Hit Global). v.items) w.hits-is ∙ w.in_ok-push.ensures.items))
-                (zip_passing related (λ token. is_ident token.kind) tokens i d c.loop-token.hits.items c.loop-token-test.true c.loop-token.invariant.4 _ (test ∙ w.if-eq.true)
-                (record {
-                  file_is = refl;
-                  offset_is = refl;
-                  line_is = line_counted source start w.lines_to.result
-                      (omega (arith, next.ends, order_within (drop (i + 1) tokens) token.span.end (length source) next.left))
-                      (subst (λ l. AreLinesTo l start w.lines_to.result) first lines)
-                      (subst (λ l. w.lines_to.result < length l → start < get_or l w.lines_to.result 0) first w.lines_to.ensures.no_more);
-                  kind_is = kind_reordered (names_of_file c.args.file.now) names start w.kind_at.result c.in_ok-names.ensures.same
-                      (subst (λ l. IsKindAt l start w.kind_at.result) w.as_slice-then-eq.ensures.value w.kind_at.ensures);
-                })),
+            ap (λ (v : Vec Hit Global). v.items) w.hits-is ∙ w.in_ok-push.ensures.items
+            ∙ passing hit (λ token. is_ident token.kind) tokens i d c.loop-token.hits.items c.loop-token-test.true c.loop-token.invariant.4 _ (test ∙ w.if-eq.true)
+            (ap (λ n. record { file = c.args.number; offset = start; line = n; kind = w.kind_at.result })
+            (line_counted source start w.lines_to.result
+            (omega (arith, next.ends, order_within (drop (i + 1) tokens) token.span.end (length source) next.left))
+            (subst (λ l. AreLinesTo l start w.lines_to.result) first lines)
+            (subst (λ l. w.lines_to.result < length l → start < get_or l w.lines_to.result 0) first w.lines_to.ensures.no_more))
+            ∙ ap (λ k. record { file = c.args.number; offset = start; line = line_of source start; kind = k })
+            (w.kind_at.ensures ∙ ap (λ ns. kind_at ns start) w.as_slice-then-eq.ensures.value ∙ c.in_ok-names.ensures.same start)),
           )
       | else-eq w ↦ (
         token.span.end,
@@ -65,8 +59,7 @@ loop-token-preserved c =
             (lines_on starts from token.span.end c.loop-token.passed.lines (omega (arith, next.begins, next.ends)) c.loop-token.invariant.2),
         subst (λ p. AreNamesBefore names token.span.end p.names) (sym w.passed-is)
             (names_on names from token.span.end c.loop-token.passed.names (omega (arith, next.begins, next.ends)) c.loop-token.invariant.3),
-        subst (λ (l : List Hit). AllZip related (filter (λ (token : Token). is_ident token.kind) (take (i + 1) tokens)) l)
-            (sym (ap (λ (v : Vec Hit Global). v.items) w.hits-is))
-            (zip_passed related (λ token. is_ident token.kind) tokens i d c.loop-token.hits.items c.loop-token-test.true c.loop-token.invariant.4 (test ∙ w.if-eq.false)),
+        ap (λ (v : Vec Hit Global). v.items) w.hits-is
+        ∙ passed hit (λ token. is_ident token.kind) tokens i d c.loop-token.hits.items c.loop-token-test.true c.loop-token.invariant.4 (test ∙ w.if-eq.false),
       )
     ]

@@ -1,8 +1,9 @@
-use Rattle.std.proofs.Common.{◌<◌, length, refl, inr, arith, get_or}
+use Rattle.std.proofs.Common.{◌<◌, length, arith, get_or}
 use Rattle.std.proofs.lemmas.Bool.Decides.{nat_tests}
 use Rattle.std.proofs.lemmas.List.{get_or_default}
 use Rattle.ident_index.specs.Naming.{Name}
-use Rattle.ident_index.proofs.KindLemmas.{none_there}
+use Rattle.ident_index.specs.declared.hit.HitKind.TheVariants.{PackageName}
+use Rattle.ident_index.proofs.KindLemmas.{first_there, none_there}
 use Rattle.ident_index.proofs.hits.kind_at.Goals as goal
 use Rattle.ident_index.proofs.hits.kind_at.Goals.{else-before-names-via-then-before-names+else-names-before, else-before-names-via-else-before-names}
 
@@ -14,4 +15,10 @@ returns-else-before-names c =
           grind (arith, nat_tests, c.requires.no_more d h, get_or_default c.args.names.now c.args.before d)
       | else-before-names-via-else-before-names w ↦ absurd (omega (arith, w.if-before-names.false))
     ] in
-    inr (refl, λ other there. none_there c.args.names.now c.args.offset c.args.before c.requires.rising c.requires.so_many beyond other there)
+    none_there c.args.names.now c.args.offset c.args.before c.requires.so_many c.requires.rising beyond
+
+pub returns-then-names-before : goal.returns-then-names-before
+returns-then-names-before c =
+    let d : Name = (0, PackageName) in
+    first_there c.args.names.now c.args.offset c.args.before c.requires.so_many d (grind (arith, nat_tests, c.if-before-names.true))
+    (grind (arith, nat_tests, c.if-names-before.true))
