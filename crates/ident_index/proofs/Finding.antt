@@ -58,7 +58,7 @@ filter-none p [] h = refl
 filter-none p (x ∷ xs) h =
     ap (λ b. cond b (x ∷ filter p xs) (filter p xs)) (h 0 x (omega arith)) ∙ filter-none p xs (λ k d l. h (suc k) d (omega arith))
 
-contains-mapped : {X Y : Type 0} (f : X → Y) (xs : List X) (i : ℕ) (d : X) → i < length xs → Contains (map f xs) (f (get_or xs i d))
+pub contains-mapped : {X Y : Type 0} (f : X → Y) (xs : List X) (i : ℕ) (d : X) → i < length xs → Contains (map f xs) (f (get_or xs i d))
 contains-mapped f [] i d h = absurd (omega arith)
 contains-mapped f (x ∷ xs) zero d h = (0, omega arith, refl)
 contains-mapped f (x ∷ xs) (suc i) d h =
@@ -79,7 +79,7 @@ same_name a b e = (bytes_eq-Decides a b).0 (sym (is_eq-slice_cmp a b) ∙ ap is_
 unlike_name : (a b : Name) (o : Ordering) → slice_cmp nat_cmp a b ≡ o → is_eq o ≡ false → bytes_eq b a ≡ false
 unlike_name a b o e other = bytes_eq-sym b a ∙ sym (is_eq-slice_cmp a b) ∙ ap is_eq e ∙ other
 
-greater : (a b : Name) → slice_cmp nat_cmp a b ≡ Less → slice_cmp nat_cmp b a ≡ Greater
+pub greater : (a b : Name) → slice_cmp nat_cmp a b ≡ Less → slice_cmp nat_cmp b a ≡ Greater
 greater a b e = nat_list_cmp_total.antisymm b a ∙ ap ordering_reverse e
 
 less : (a b : Name) → slice_cmp nat_cmp a b ≡ Greater → slice_cmp nat_cmp b a ≡ Less

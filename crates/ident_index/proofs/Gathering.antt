@@ -1,5 +1,5 @@
 -- The hits that are gathered under names.
-use Rattle.std.proofs.Common.{◌≡◌, ℕ, Bool, true, false, ◌||◌, Bor, List, [], ◌∷◌, ◌++◌, cond, if◌then◌else◌, map, filter, length, take, get_or, ◌<◌, ◌+◌, refl, sym, ap, ◌∙◌, append_assoc, append-nil}
+use Rattle.std.proofs.Common.{◌≡◌, ℕ, Bool, true, false, ◌||◌, Bor, List, [], ◌∷◌, ◌++◌, cond, if◌then◌else◌, map, filter, length, take, get_or, ◌<◌, ◌+◌, refl, sym, ap, ◌∙◌, append-nil}
 use Rattle.std.specs.List.{list_any, flat_map}
 use Rattle.std.specs.HashMap.{HashMap}
 use Rattle.std.specs.Global.{Vec}
@@ -13,7 +13,7 @@ use Rattle.ident_index.specs.declared.hit.HitFile.{HitFile}
 use Rattle.ident_index.specs.Postings.{NamedHit, hits_named, named_of, named_of_all, source_and_hits}
 use Rattle.ident_index.specs.Tables.{HasGroups, has_group, hits_in}
 
-hits_named-append : (q : List ℕ) (xs ys : List NamedHit) → hits_named q (xs ++ ys) ≡ hits_named q xs ++ hits_named q ys
+pub hits_named-append : (q : List ℕ) (xs ys : List NamedHit) → hits_named q (xs ++ ys) ≡ hits_named q xs ++ hits_named q ys
 hits_named-append q xs ys =
     ap (map (λ (n : NamedHit). n.hit)) (filter-append (λ (n : NamedHit). bytes_eq q n.name) xs ys)
     ∙ map-append (λ (n : NamedHit). n.hit) (filter (λ (n : NamedHit). bytes_eq q n.name) xs) (filter (λ (n : NamedHit). bytes_eq q n.name) ys)

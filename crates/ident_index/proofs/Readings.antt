@@ -1,13 +1,11 @@
 -- Where an identifier of a reading begins, a character does, and the name that stands there is its text.
-use Rattle.std.proofs.Common.{◌≡◌, ℕ, ◌+◌, ◌-◌, ◌≤◌, Bool, true, false, cond, List, [], ◌∷◌, ◌++◌, length, take, drop, IsUtf8, filter, All, sym, ap, subst, ◌∙◌, refl, arith, inl, inr, length-append}
+use Rattle.std.proofs.Common.{◌≡◌, ℕ, ◌+◌, ◌-◌, ◌≤◌, Bool, true, false, cond, List, [], ◌∷◌, ◌++◌, length, take, drop, IsUtf8, All, sym, ap, subst, ◌∙◌, refl, arith, inl, inr, length-append}
 use Rattle.std.specs.Prelude.{◌&&◌}
-use Rattle.std.specs.List.{AllZip}
 use Rattle.std.specs.Str.{IsCharBoundary, encode_utf8_all}
 use Rattle.std.proofs.lemmas.Bool.{cases_Bool, false≢true}
 use Rattle.std.proofs.lemmas.List.{take_at, drop_at, drop-drop, length-drop}
-use Rattle.std.proofs.lemmas.List.Elements.{All-nil, All-cons, All-head, All-tail}
+use Rattle.std.proofs.lemmas.List.Elements.{All-nil, All-cons}
 use Rattle.std.proofs.lemmas.Str.{IsCharBoundary-from_drop}
-use Rattle.go_ast.specs.declared.declaration.File.{File}
 use Rattle.go_ast.specs.declared.token.Token.{Token}
 use Rattle.go_ast.specs.declared.token.Comment.{Comment}
 use Rattle.go_ast.specs.declared.token.TokenKind.{TokenKind}
@@ -22,10 +20,7 @@ use Rattle.go_scanner.proofs.ScanLaws.{begins_word-identifier}
 use Rattle.go_scanner.proofs.ScanLaws.{SpelledAt-IsSpelled, whole_run}
 use Rattle.go_scanner.proofs.ScanLaws.{same_fronts}
 use Rattle.go_scanner.proofs.ScanLaws.{front_split, name_found}
-use Rattle.ident_index.specs.declared.hit.Hit.{Hit}
-use Rattle.ident_index.specs.declared.hit.HitFile.{HitFile}
-use Rattle.ident_index.specs.Hits.{AreHitsOf, AreNamed, IsHitOf}
-use Rattle.ident_index.specs.Postings.{HasNames, name_at}
+use Rattle.ident_index.specs.Postings.{name_at}
 
 either_length : (b c d : Bool) (one other : TokenKind) (n : ℕ) → length_of (cond b (shapes.Token one c n) (shapes.Token other d n)) ≡ n
 either_length true c d one other n = refl
@@ -51,11 +46,12 @@ word_is characters after utf8 stands =
     same_fronts bytes (word_at bytes) (encode_utf8_all characters) split.0 after split.1 refl
     (sym (word_length (word_at bytes)) ∙ ap length_of shape)
 
-record IsNamedAt (bytes : List ℕ) (token : Token) : Type 0 where
-  begin : IsCharBoundary bytes token.span.start
-  same : name_at bytes token.span.start ≡ text_of bytes token
+-- a character begins where the token does, and its text is the name that stands there
+pub record IsNamedAt (bytes : List ℕ) (token : Token) : Type 0 where
+  pub begin : IsCharBoundary bytes token.span.start
+  pub same : name_at bytes token.span.start ≡ text_of bytes token
 
-abbrev IsNamedIdent : List ℕ → Token → Type 0
+abbrev pub IsNamedIdent : List ℕ → Token → Type 0
 IsNamedIdent bytes token = is_ident token.kind ≡ true → IsNamedAt bytes token
 
 -- the rest of some bytes from an offset on
@@ -119,53 +115,8 @@ all_named bytes (item ∷ items) offset rest at h =
     let past = rest_past bytes (print_item item) h.0 offset split (utf8_after offset item h.0 h.2 split.utf8) in
     item_named bytes item items offset h.0 (tokens_of end items) split h.2 (all_named bytes items end h.0 past h.3)
 
-reading_named : (bytes : List ℕ) (tokens : List Token) (comments : List Comment) → Reads bytes tokens comments
+pub reading_named : (bytes : List ℕ) (tokens : List Token) (comments : List Comment) → Reads bytes tokens comments
     → All (IsNamedIdent bytes) tokens
 reading_named bytes tokens comments read =
     subst (All (IsNamedIdent bytes)) (sym read.all_tokens)
     (all_named bytes read.items 0 bytes (record { within = omega arith; here = refl; utf8 = read.utf8 }) read.leads)
-
--- hits that are named
-record AreHitsNamed (source : List ℕ) (tokens : List Token) (hits : List Hit) : Type 0 where
-  begin : All (λ hit. IsCharBoundary source hit.offset) hits
-  same : AllZip (λ token hit. name_at source hit.offset ≡ text_of source token) tokens hits
-
-module _ (source : List ℕ) (file : File) (number : ℕ) where
-  one_named : (token : Token) (hit : Hit) (tokens : List Token) (hits : List Hit) → IsNamedAt source token → IsHitOf source file number token hit
-      → AreHitsNamed source tokens hits → AreHitsNamed source (token ∷ tokens) (hit ∷ hits)
-  one_named token hit tokens hits named is others = record {
-    begin = All-cons (λ (hit : Hit). IsCharBoundary source hit.offset) hit hits (subst (IsCharBoundary source) (sym is.offset_is) named.begin) others.begin;
-    same = (ap (name_at source) is.offset_is ∙ named.same, others.same);
-  }
-
-  abbrev idents : List Token → List Token
-  idents tokens = filter (λ token. is_ident token.kind) tokens
-
-  abbrev Follows : List Token → Type 0
-  Follows tokens = (hits : List Hit) → AllZip (IsHitOf source file number) tokens hits → AreHitsNamed source tokens hits
-
-  next_named : (b : Bool) (token : Token) (tokens : List Token) → is_ident token.kind ≡ b → IsNamedIdent source token
-      → Follows tokens → Follows (cond b (token ∷ tokens) tokens)
-  next_named true token tokens is named later [] zip = absurd zip
-  next_named true token tokens is named later (hit ∷ hits) zip =
-      one_named token hit tokens hits (named is) zip.0 (later hits zip.1)
-  next_named false token tokens is named later hits zip = later hits zip
-
-  all_follow : (tokens : List Token) → All (IsNamedIdent source) tokens → Follows (idents tokens)
-  all_follow [] all [] zip = record { begin = All-nil (λ (hit : Hit). IsCharBoundary source hit.offset); same = tt }
-  all_follow [] all (hit ∷ hits) zip = absurd zip
-  all_follow (token ∷ tokens) all hits zip =
-      next_named (is_ident token.kind) token (idents tokens) refl (All-head (IsNamedIdent source) token tokens all)
-      (all_follow tokens (All-tail (IsNamedIdent source) token tokens all)) hits zip
-
-pub hits_begin : (file : HitFile) (tree : File) (number : ℕ) (tokens : List Token) (comments : List Comment)
-    → Reads file.source tokens comments → AreHitsOf file.source tokens tree number file.hits → HasNames file
-hits_begin file tree number tokens comments read hits = record {
-  utf8 = read.utf8;
-  begin = (all_follow file.source tree number tokens (reading_named file.source tokens comments read) file.hits hits).begin;
-}
-
-pub hits_named : (source : List ℕ) (tree : File) (number : ℕ) (tokens : List Token) (comments : List Comment) (hits : List Hit)
-    → Reads source tokens comments → AreHitsOf source tokens tree number hits → AreNamed source tokens hits
-hits_named source tree number tokens comments hits read are =
-    (all_follow source tree number tokens (reading_named source tokens comments read) hits are).same

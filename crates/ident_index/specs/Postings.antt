@@ -1,5 +1,5 @@
 -- The identifiers of files by their names. Public clauses cite these.
-use Rattle.std.specs.Prelude.{◌≡◌, ◌↔◌, ℕ, List, [], ◌∷◌, ◌++◌, drop, filter, map, All, AllPairs}
+use Rattle.std.specs.Prelude.{◌≡◌, ◌↔◌, ℕ, List, [], drop, filter, map, All, AllPairs}
 use Rattle.std.specs.Prelude.{Contains, IsUtf8}
 use Rattle.std.specs.List.{find, flat_map}
 use Rattle.std.specs.Option.{option_map_or}

@@ -1,0 +1,38 @@
+-- Filters, and lists whose later elements stand in a relation to the earlier ones.
+use Rattle.std.proofs.Common.{◌≡◌, suc, ◌<◌, Bool, true, false, cond, List, [], ◌∷◌, ◌++◌, length, get_or, map, filter, All, refl, sym, ap, subst, arith}
+use Rattle.std.specs.Prelude.{◌&&◌, AllPairs}
+use Rattle.std.proofs.lemmas.List.{get_or-map, length-map}
+use Rattle.std.proofs.lemmas.List.Elements.{All-append, All-cons, All-head, All-nil, All-tail}
+use Rattle.std.proofs.lemmas.List.Kept.{AllPairs-cons}
+
+-- what passes has what follows from passing
+pub all_kept : {X : Type 0} (p : X → Bool) (P : X → Type 0) (xs : List X) → All (λ x. p x ≡ true → P x) xs → All P (filter p xs)
+all_kept p P [] h = All-nil P
+all_kept p P (x ∷ xs) h =
+    let rest = all_kept p P xs (All-tail (λ x. p x ≡ true → P x) x xs h) in
+    elim (p x) as (λ b. p x ≡ b → All P (cond b (x ∷ filter p xs) (filter p xs))) [
+      | true ↦ λ passes. All-cons P x (filter p xs) (All-head (λ x. p x ≡ true → P x) x xs h passes) rest
+      | false ↦ λ fails. rest
+    ] refl
+
+pub filter_twice : {X : Type 0} (p q : X → Bool) (xs : List X) → filter (λ x. p x && q x) xs ≡ filter q (filter p xs)
+filter_twice p q [] = refl
+filter_twice p q (x ∷ xs) =
+    elim (p x) as (λ b. cond (b && q x) (x ∷ filter (λ x. p x && q x) xs) (filter (λ x. p x && q x) xs) ≡ filter q (cond b (x ∷ filter p xs) (filter p xs))) [
+      | true ↦ ap (λ l. cond (q x) (x ∷ l) l) (filter_twice p q xs)
+      | false ↦ filter_twice p q xs
+    ]
+
+pub AllPairs-map : {X Y : Type 0} (R : Y → Y → Type 0) (f : X → Y) (xs : List X) → AllPairs (λ a b. R (f a) (f b)) xs → AllPairs R (map f xs)
+AllPairs-map R f [] h = λ i j d l m. absurd (omega arith)
+AllPairs-map R f (x ∷ xs) h = λ i j d l m.
+    let within : j < length (x ∷ xs) = omega (arith, length-map (x ∷ xs) f) in
+    subst (λ a. R a (get_or (map f (x ∷ xs)) j d)) (sym (get_or-map f (x ∷ xs) i x d (omega arith)))
+    (subst (R (f (get_or (x ∷ xs) i x))) (sym (get_or-map f (x ∷ xs) j x d within)) (h i j x l within))
+
+pub AllPairs-append : {X : Type 0} (R : X → X → Type 0) (xs ys : List X) → AllPairs R xs → AllPairs R ys → All (λ x. All (R x) ys) xs → AllPairs R (xs ++ ys)
+AllPairs-append R [] ys left right across = right
+AllPairs-append R (x ∷ xs) ys left right across =
+    AllPairs-cons R x (xs ++ ys)
+    (All-append (R x) xs ys (λ k d h. left 0 (suc k) d (omega arith) (omega arith)) (All-head (λ x. All (R x) ys) x xs across))
+    (AllPairs-append R xs ys (λ i j d l m. left (suc i) (suc j) d (omega arith) (omega arith)) right (All-tail (λ x. All (R x) ys) x xs across))
