@@ -14,10 +14,10 @@ use Rattle.std.proofs.lemmas.List.{get_or_default}
 use Rattle.std.proofs.lemmas.Map.Text.{is_eq-slice_cmp}
 use Rattle.std.proofs.lemmas.List.Elements.{All-contains, All-map}
 use Rattle.std.proofs.lemmas.Slice.Eq.{bytes_eq-Decides}
+use Rattle.ident_index.proofs.Lists.{find-at, find-nowhere}
 use Rattle.ident_index.specs.declared.hit.Hit.{Hit}
-use Rattle.ident_index.specs.declared.postings.Entry.{Entry}
-use Rattle.ident_index.specs.Postings.{IsTableOf, NamedHit, Posting, hits_at, hits_named}
-use Rattle.ident_index.specs.Tables.{IsEntryBelow, IsNamedAt, posting_of, postings_of}
+use Rattle.ident_index.specs.Postings.{IsNameBelow, IsTableOf, NamedHit, Posting, hits_at, hits_named}
+use Rattle.ident_index.specs.Tables.{IsNamedAt}
 
 find-some : {X : Type 0} (p : X → Bool) (xs : List X) (x : X) → find p xs ≡ Some x → Contains xs x × (p x ≡ true)
 find-some p [] x e = cc
@@ -38,20 +38,6 @@ find-none {X} p (y ∷ ys) e =
     none-cons : {X : Type 0} (p : X → Bool) (y : X) (ys : List X) → p y ≡ false → All (λ x. p x ≡ false) ys → All (λ x. p x ≡ false) (y ∷ ys)
     none-cons p y ys fails rest zero d h = fails
     none-cons p y ys fails rest (suc k) d h = rest k d (omega arith)
-
--- the first element that passes
-pub find-first : {X Y : Type 0} (f : X → Y) (p : Y → Bool) (xs : List X) (i : ℕ) (d : X) → i < length xs → p (f (get_or xs i d)) ≡ true
-    → ((k : ℕ) → k < i → p (f (get_or xs k d)) ≡ false) → find p (map f xs) ≡ Some (f (get_or xs i d))
-find-first f p [] i d h passes fails = absurd (omega arith)
-find-first f p (x ∷ xs) zero d h passes fails = ap (λ b. cond b (Some (f x)) (find p (map f xs))) passes
-find-first f p (x ∷ xs) (suc i) d h passes fails =
-    ap (λ b. cond b (Some (f x)) (find p (map f xs))) (fails 0 (omega arith))
-    ∙ find-first f p xs i d (omega arith) passes (λ k l. fails (suc k) (omega arith))
-
-pub find-absent : {X Y : Type 0} (f : X → Y) (p : Y → Bool) (xs : List X) → All (λ x. p (f x) ≡ false) xs → find p (map f xs) ≡ None
-find-absent f p [] h = refl
-find-absent f p (x ∷ xs) h =
-    ap (λ b. cond b (Some (f x)) (find p (map f xs))) (h 0 x (omega arith)) ∙ find-absent f p xs (λ k d l. h (suc k) d (omega arith))
 
 filter-none : {X : Type 0} (p : X → Bool) (xs : List X) → All (λ x. p x ≡ false) xs → filter p xs ≡ []
 filter-none p [] h = refl
@@ -76,7 +62,7 @@ Name = List ℕ
 same_name : (a b : Name) → slice_cmp nat_cmp a b ≡ Equal → a ≡ b
 same_name a b e = (bytes_eq-Decides a b).0 (sym (is_eq-slice_cmp a b) ∙ ap is_eq e)
 
-unlike_name : (a b : Name) (o : Ordering) → slice_cmp nat_cmp a b ≡ o → is_eq o ≡ false → bytes_eq b a ≡ false
+pub unlike_name : (a b : Name) (o : Ordering) → slice_cmp nat_cmp a b ≡ o → is_eq o ≡ false → bytes_eq b a ≡ false
 unlike_name a b o e other = bytes_eq-sym b a ∙ sym (is_eq-slice_cmp a b) ∙ ap is_eq e ∙ other
 
 pub greater : (a b : Name) → slice_cmp nat_cmp a b ≡ Less → slice_cmp nat_cmp b a ≡ Greater
@@ -85,66 +71,64 @@ greater a b e = nat_list_cmp_total.antisymm b a ∙ ap ordering_reverse e
 less : (a b : Name) → slice_cmp nat_cmp a b ≡ Greater → slice_cmp nat_cmp b a ≡ Less
 less a b e = nat_list_cmp_total.antisymm b a ∙ ap ordering_reverse e
 
-module _ (entries : List Entry) (name : Name) (rising : AllPairs IsEntryBelow entries) (middle : ℕ) (within : middle < length entries) (x : Entry)
+module _ (entries : List Posting) (name : Name) (rising : AllPairs IsNameBelow entries) (middle : ℕ) (within : middle < length entries) (x : Posting)
     (here : get_or entries middle x ≡ x) where
-  middle_is : (d : Entry) → get_or entries middle d ≡ x
+  middle_is : (d : Posting) → get_or entries middle d ≡ x
   middle_is d = get_or_default entries middle d x within ∙ here
 
-  pub below_more : slice_cmp nat_cmp x.name.items name ≡ Less → (i : ℕ) (d : Entry) → i < middle + 1
-      → slice_cmp nat_cmp (get_or entries i d).name.items name ≡ Less
+  pub below_more : slice_cmp nat_cmp x.name name ≡ Less → (i : ℕ) (d : Posting) → i < middle + 1
+      → slice_cmp nat_cmp (get_or entries i d).name name ≡ Less
   below_more is i d h =
       elim (cases_lt i middle) [
-        | inl before ↦ nat_list_cmp_total.trans _ x.name.items name
-            (subst (λ (y : Entry). slice_cmp nat_cmp (get_or entries i d).name.items y.name.items ≡ Less) (middle_is d) (rising i middle d before within)) is
+        | inl before ↦ nat_list_cmp_total.trans _ x.name name
+            (subst (λ (y : Posting). slice_cmp nat_cmp (get_or entries i d).name y.name ≡ Less) (middle_is d) (rising i middle d before within)) is
         | inr after ↦
             let same : middle ≡ i = omega arith in
-            subst (λ j. slice_cmp nat_cmp (get_or entries j d).name.items name ≡ Less) same
-            (subst (λ (y : Entry). slice_cmp nat_cmp y.name.items name ≡ Less) (sym (middle_is d)) is)
+            subst (λ j. slice_cmp nat_cmp (get_or entries j d).name name ≡ Less) same
+            (subst (λ (y : Posting). slice_cmp nat_cmp y.name name ≡ Less) (sym (middle_is d)) is)
       ]
 
-  pub above_more : slice_cmp nat_cmp x.name.items name ≡ Greater → (i : ℕ) (d : Entry) → middle ≤ i → i < length entries
-      → slice_cmp nat_cmp (get_or entries i d).name.items name ≡ Greater
+  pub above_more : slice_cmp nat_cmp x.name name ≡ Greater → (i : ℕ) (d : Posting) → middle ≤ i → i < length entries
+      → slice_cmp nat_cmp (get_or entries i d).name name ≡ Greater
   above_more is i d h l =
       elim (cases_lt middle i) [
-        | inl later ↦ greater name (get_or entries i d).name.items
-            (nat_list_cmp_total.trans name x.name.items _ (less x.name.items name is)
-            (subst (λ (y : Entry). slice_cmp nat_cmp y.name.items (get_or entries i d).name.items ≡ Less) (middle_is d) (rising middle i d later l)))
+        | inl later ↦ greater name (get_or entries i d).name
+            (nat_list_cmp_total.trans name x.name _ (less x.name name is)
+            (subst (λ (y : Posting). slice_cmp nat_cmp y.name (get_or entries i d).name ≡ Less) (middle_is d) (rising middle i d later l)))
         | inr before ↦
             let same : middle ≡ i = omega arith in
-            subst (λ j. slice_cmp nat_cmp (get_or entries j d).name.items name ≡ Greater) same
-            (subst (λ (y : Entry). slice_cmp nat_cmp y.name.items name ≡ Greater) (sym (middle_is d)) is)
+            subst (λ j. slice_cmp nat_cmp (get_or entries j d).name name ≡ Greater) same
+            (subst (λ (y : Posting). slice_cmp nat_cmp y.name name ≡ Greater) (sym (middle_is d)) is)
       ]
 
-  pub named_here : slice_cmp nat_cmp x.name.items name ≡ Equal → IsNamedAt name entries middle
-  named_here is = (within, λ d. subst (λ (y : Entry). y.name.items ≡ name) (sym (middle_is d)) (same_name x.name.items name is))
+  pub named_here : slice_cmp nat_cmp x.name name ≡ Equal → IsNamedAt name entries middle
+  named_here is = (within, λ d. subst (λ (y : Posting). y.name ≡ name) (sym (middle_is d)) (same_name x.name name is))
 
 -- where each name is below or above, none is the name
-pub none_here : (entries : List Entry) (name : Name) (low : ℕ)
-    → ((i : ℕ) (d : Entry) → i < low → slice_cmp nat_cmp (get_or entries i d).name.items name ≡ Less)
-    → ((i : ℕ) (d : Entry) → low ≤ i → i < length entries → slice_cmp nat_cmp (get_or entries i d).name.items name ≡ Greater)
-    → All (λ e. bytes_eq name e.name.items ≡ false) entries
+pub none_here : (entries : List Posting) (name : Name) (low : ℕ)
+    → ((i : ℕ) (d : Posting) → i < low → slice_cmp nat_cmp (get_or entries i d).name name ≡ Less)
+    → ((i : ℕ) (d : Posting) → low ≤ i → i < length entries → slice_cmp nat_cmp (get_or entries i d).name name ≡ Greater)
+    → All (λ e. bytes_eq name e.name ≡ false) entries
 none_here entries name low below above k d h =
     elim (cases_lt k low) [
-      | inl before ↦ unlike_name (get_or entries k d).name.items name Less (below k d before) refl
-      | inr after ↦ unlike_name (get_or entries k d).name.items name Greater (above k d after h) refl
+      | inl before ↦ unlike_name (get_or entries k d).name name Less (below k d before) refl
+      | inr after ↦ unlike_name (get_or entries k d).name name Greater (above k d after h) refl
     ]
 
-module _ (hits : List Hit) (entries : List Entry) (name : Name) where
-  -- the hits of the entry that has the name
-  pub hits_at_place : AllPairs IsEntryBelow entries → (place : ℕ) (x : Entry) → IsNamedAt name entries place → get_or entries place x ≡ x
-      → hits_at (postings_of hits entries) name ≡ slice_range hits x.first x.after
+module _ (postings : List Posting) (name : Name) where
+  -- the hits of the posting that has the name
+  pub hits_at_place : AllPairs IsNameBelow postings → (place : ℕ) (x : Posting) → IsNamedAt name postings place → get_or postings place x ≡ x
+      → hits_at postings name ≡ x.hits
   hits_at_place rising place x named here =
-      let is : x.name.items ≡ name = subst (λ (y : Entry). y.name.items ≡ name) here (named.1 x) in
-      let passes : bytes_eq name (get_or entries place x).name.items ≡ true = (bytes_eq-Decides name (get_or entries place x).name.items).1 (sym (named.1 x)) in
-      let fails : (k : ℕ) → k < place → bytes_eq name (get_or entries k x).name.items ≡ false =
-      λ k l. unlike_name (get_or entries k x).name.items name Less
-      (subst (λ m. slice_cmp nat_cmp (get_or entries k x).name.items m ≡ Less) (named.1 x) (rising k place x l named.0)) refl in
+      let passes : bytes_eq name (get_or postings place x).name ≡ true = (bytes_eq-Decides name (get_or postings place x).name).1 (sym (named.1 x)) in
+      let fails : (k : ℕ) → k < place → bytes_eq name (get_or postings k x).name ≡ false =
+      λ k l. unlike_name (get_or postings k x).name name Less
+      (subst (λ m. slice_cmp nat_cmp (get_or postings k x).name m ≡ Less) (named.1 x) (rising k place x l named.0)) refl in
       ap (λ o. option_map_or (λ p. p.hits) o [])
-      (find-first (posting_of hits) (λ p. bytes_eq name p.name) entries place x named.0 passes fails
-      ∙ ap (λ (y : Entry). Some (posting_of hits y)) here)
+      (find-at (λ p. bytes_eq name p.name) postings place x named.0 passes fails ∙ ap (λ (y : Posting). Some y) here)
 
-  pub hits_at_none : All (λ e. bytes_eq name e.name.items ≡ false) entries → hits_at (postings_of hits entries) name ≡ []
-  hits_at_none none = ap (λ o. option_map_or (λ p. p.hits) o []) (find-absent (posting_of hits) (λ p. bytes_eq name p.name) entries none)
+  pub hits_at_none : All (λ p. bytes_eq name p.name ≡ false) postings → hits_at postings name ≡ []
+  hits_at_none none = ap (λ o. option_map_or (λ p. p.hits) o []) (find-nowhere (λ p. bytes_eq name p.name) postings none)
 
 module _ (named : List NamedHit) (postings : List Posting) (table : IsTableOf named postings) (name : List ℕ) where
   none_named : find (λ p. bytes_eq name p.name) postings ≡ None → All (λ n. bytes_eq name n.name ≡ false) named

@@ -13,29 +13,7 @@ use Rattle.ident_index.specs.declared.hit.HitKind.TheVariants.{Usage}
 use Rattle.ident_index.specs.Hits.{kind_at}
 use Rattle.ident_index.specs.Naming.{Name}
 use Rattle.ident_index.specs.Places.{AreNamesBefore}
-
-module _ {X : Type 0} (p : X → Bool) where
-  find-at : (xs : List X) (i : ℕ) (d : X) → i < length xs → p (get_or xs i d) ≡ true → ((k : ℕ) → k < i → p (get_or xs k d) ≡ false)
-      → find p xs ≡ Some (get_or xs i d)
-  find-at [] i d h passes fails = absurd (omega arith)
-  find-at (x ∷ xs) zero d h passes fails = ap (λ b. cond b (Some x) (find p xs)) passes
-  find-at (x ∷ xs) (suc i) d h passes fails =
-      ap (λ b. cond b (Some x) (find p xs)) (fails 0 (omega arith))
-      ∙ find-at xs i d (omega arith) passes (λ k l. fails (suc k) (omega arith))
-
-  find-nowhere : (xs : List X) → All (λ x. p x ≡ false) xs → find p xs ≡ None
-  find-nowhere [] h = refl
-  find-nowhere (x ∷ xs) h =
-      ap (λ b. cond b (Some x) (find p xs)) (h 0 x (omega arith)) ∙ find-nowhere xs (λ k d l. h (suc k) d (omega arith))
-
-  -- the first that passes is the first of those that pass
-  find-filter : (xs : List X) → find p xs ≡ find p (filter p xs)
-  find-filter [] = refl
-  find-filter (x ∷ xs) =
-      elim (p x) as (λ b. p x ≡ b → cond b (Some x) (find p xs) ≡ find p (cond b (x ∷ filter p xs) (filter p xs))) [
-        | true ↦ λ passes. sym (ap (λ b. cond b (Some x) (find p (filter p xs))) passes)
-        | false ↦ λ fails. find-filter xs
-      ] refl
+use Rattle.ident_index.proofs.Lists.{find-at, find-filter, find-nowhere}
 
 abbrev stands_at : ℕ → Name → Bool
 stands_at offset name = name.0 == offset

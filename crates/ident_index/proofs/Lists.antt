@@ -1,6 +1,7 @@
--- Filters, and lists whose later elements stand in a relation to the earlier ones.
-use Rattle.std.proofs.Common.{◌≡◌, suc, ◌<◌, Bool, true, false, cond, List, [], ◌∷◌, ◌++◌, length, get_or, map, filter, All, refl, sym, ap, subst, arith}
+-- The first element that passes, filters, and lists whose later elements stand in a relation to the earlier ones.
+use Rattle.std.proofs.Common.{◌≡◌, ◌∙◌, ℕ, zero, suc, ◌<◌, Bool, true, false, cond, Some, None, List, [], ◌∷◌, ◌++◌, length, get_or, map, filter, All, refl, sym, ap, subst, arith}
 use Rattle.std.specs.Prelude.{◌&&◌, AllPairs}
+use Rattle.std.specs.List.{find}
 use Rattle.std.proofs.lemmas.List.{get_or-map, length-map}
 use Rattle.std.proofs.lemmas.List.Elements.{All-append, All-cons, All-head, All-nil, All-tail}
 use Rattle.std.proofs.lemmas.List.Kept.{AllPairs-cons}
@@ -36,3 +37,26 @@ AllPairs-append R (x ∷ xs) ys left right across =
     AllPairs-cons R x (xs ++ ys)
     (All-append (R x) xs ys (λ k d h. left 0 (suc k) d (omega arith) (omega arith)) (All-head (λ x. All (R x) ys) x xs across))
     (AllPairs-append R xs ys (λ i j d l m. left (suc i) (suc j) d (omega arith) (omega arith)) right (All-tail (λ x. All (R x) ys) x xs across))
+
+module _ {X : Type 0} (p : X → Bool) where
+  pub find-at : (xs : List X) (i : ℕ) (d : X) → i < length xs → p (get_or xs i d) ≡ true → ((k : ℕ) → k < i → p (get_or xs k d) ≡ false)
+      → find p xs ≡ Some (get_or xs i d)
+  find-at [] i d h passes fails = absurd (omega arith)
+  find-at (x ∷ xs) zero d h passes fails = ap (λ b. cond b (Some x) (find p xs)) passes
+  find-at (x ∷ xs) (suc i) d h passes fails =
+      ap (λ b. cond b (Some x) (find p xs)) (fails 0 (omega arith))
+      ∙ find-at xs i d (omega arith) passes (λ k l. fails (suc k) (omega arith))
+
+  pub find-nowhere : (xs : List X) → All (λ x. p x ≡ false) xs → find p xs ≡ None
+  find-nowhere [] h = refl
+  find-nowhere (x ∷ xs) h =
+      ap (λ b. cond b (Some x) (find p xs)) (h 0 x (omega arith)) ∙ find-nowhere xs (λ k d l. h (suc k) d (omega arith))
+
+  -- the first that passes is the first of those that pass
+  pub find-filter : (xs : List X) → find p xs ≡ find p (filter p xs)
+  find-filter [] = refl
+  find-filter (x ∷ xs) =
+      elim (p x) as (λ b. p x ≡ b → cond b (Some x) (find p xs) ≡ find p (cond b (x ∷ filter p xs) (filter p xs))) [
+        | true ↦ λ passes. sym (ap (λ b. cond b (Some x) (find p (filter p xs))) passes)
+        | false ↦ λ fails. find-filter xs
+      ] refl

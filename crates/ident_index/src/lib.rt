@@ -5,6 +5,7 @@
 #![tactic(auto)]
 
 mod declarations;
+mod entry;
 mod groups;
 mod hit;
 mod hits;

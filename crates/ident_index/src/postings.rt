@@ -1,49 +1,43 @@
 //! The table of all names with their hits.
 
-ghost use Rattle.std.specs.Prelude.{◌≡◌, ◌≤◌, ◌+◌, ◌-◌, ◌*◌, ◌^◌, ◌++◌, ◌∷◌, ◌↔◌, ℕ, All, AllPairs};
-ghost use Rattle.std.specs.Prelude.{Contains, IfOk, IsTrue, List, OnOk, [], length, map};
+ghost use Rattle.std.specs.Prelude.{◌≡◌, ◌≤◌, ◌+◌, ◌-◌, ◌*◌, ◌^◌, ◌↔◌, ℕ, All, AllPairs, Contains};
+ghost use Rattle.std.specs.Prelude.{IfOk, IsTrue, List, [], if◌then◌else◌, length, map};
 ghost use Rattle.std.specs.Cmp.Lexicographic.{slice_cmp};
 ghost use Rattle.std.specs.List.{sum_by};
 ghost use Rattle.std.specs.Ordering.{nat_cmp};
+ghost use Rattle.std.specs.Str.{bytes_eq};
 ghost use Rattle.std.specs.declared.cmp.Ordering.TheVariants.{Less};
-ghost use Rattle.ident_index.specs.Postings.{HasNames, IsTableOf, NamedHit, Posting, hits_at};
-ghost use Rattle.ident_index.specs.Postings.{hits_named, named_of_all, source_and_hits};
-ghost use Rattle.ident_index.specs.Tables.{IsBuilt, has_group, hits_in};
+ghost use Rattle.ident_index.specs.Postings.{HasNames, IsTableOf, hits_at, named_of_all};
+ghost use Rattle.ident_index.specs.Postings.{source_and_hits};
+ghost use Rattle.ident_index.specs.Tables.{has_group, hits_in, posting_in};
 
+use crate::entry::Entry;
 use crate::groups::{Groups, group_hits};
 use crate::hit::{Hit, HitFile};
 use crate::search::place_of;
 use crate::steps::Steps;
-use plain_data::Mem;
+use plain_data::{Mem, NoMemory};
 use std::alloc::Global;
 use std::marker::Model;
 use std::sync::ledger::Ledger;
-
-/// A name, and the part of the list of hits that has the hits of that name.
-#[derive(Drop)]
-pub(crate) struct Entry {
-    pub(crate) name: Vec<u8>,
-    pub(crate) first: usize,
-    pub(crate) after: usize,
-}
 
 /// All names of some files, sorted, each with its hits: contracts see the list of these.
 #[derive(Drop)]
 pub struct Postings {
     entries: Vec<Entry>,
-    hits: Vec<Hit>,
+    total: u64,
 }
 
 impl Model for Postings {
     ghost use Rattle.std.specs.Prelude.{List};
     ghost use Rattle.ident_index.specs.Postings.{Posting};
-    ghost use Rattle.ident_index.specs.Tables.{IsLaidOut, postings_of};
+    ghost use Rattle.ident_index.specs.Tables.{IsLaidOut};
 
     ghost Value = { List Posting };
 
-    ghost view = { λ p. postings_of p.hits.items p.entries.items };
+    ghost view = { λ p. p.entries.items };
 
-    ghost invariant = { λ p. IsLaidOut p.hits.items p.entries.items };
+    ghost invariant = { λ p. IsLaidOut p.entries.items p.total };
 }
 
 /// The names under which hits are gathered, sorted.
@@ -53,7 +47,7 @@ fn sorted_names<'a>(alloc: Global, groups: &Groups<'a>) -> Mem<Vec<&'a str>>
     ensures names { IfOk result (λ names. (q : List ℕ)
         → Contains (map (λ name. name.now) names.items) q ↔ IsTrue (has_group groups.now q)) }
 {
-    let mut names = Vec::new(alloc);
+    let mut names = Vec::with_capacity(alloc, groups.len())?;
     for name in groups.keys() {
         names.push(*name)?;
     }
@@ -61,57 +55,33 @@ fn sorted_names<'a>(alloc: Global, groups: &Groups<'a>) -> Mem<Vec<&'a str>>
     Ok(names)
 }
 
-/// The hits that are gathered under a name.
-fn hits_under<'g>(groups: &'g Groups, name: &str) -> &'g [Hit]
-    ensures { result.now ≡ hits_in groups.now name.now }
+/// Takes the hits of a name out of their group.
+fn take_group(alloc: Global, groups: &mut Groups, name: &str) -> Vec<Hit>
+    ensures taken { result.items ≡ hits_in groups.old name.now }
+    ensures rest { (q : List ℕ)
+        → hits_in groups.new q ≡ (if bytes_eq q name.now then [] else hits_in groups.old q) }
 {
-    match groups.get(name) {
-        Some(hits) => hits.as_slice(),
-        None => &[],
+    match groups.remove(name) {
+        Some(hits) => hits,
+        None => Vec::new(alloc),
     }
-}
-
-/// Adds a name and its hits at the end.
-fn push_posting(
-    alloc: Global,
-    entries: &mut Vec<Entry>,
-    hits: &mut Vec<Hit>,
-    name: &str,
-    found: &[Hit],
-) -> Mem<()>
-    ensures { OnOk result ((done : List Posting) → IsBuilt hits.old.items entries.old.items done
-        → IsBuilt hits.new.items entries.new.items
-        (done ++ record { name = name.now; hits = found.now } ∷ [])) }
-{
-    let first = hits.len();
-    hits.extend_from_slice(found)?;
-    entries.push(Entry {
-        name: Vec::from_slice(alloc, name.as_bytes())?,
-        first,
-        after: hits.len(),
-    })?;
-    Ok(())
 }
 
 /// The table of gathered hits, with its names in this order.
-fn lay_out(alloc: Global, groups: &Groups, names: &[&str]) -> Mem<(Vec<Entry>, Vec<Hit>)>
-    ensures { IfOk result (λ table. IsBuilt table.1.items table.0.items
-        (map (λ name. record { name = name.now; hits = hits_in groups.now name.now }) names.now)) }
+fn lay_out(alloc: Global, mut groups: Groups, names: &[&str]) -> Mem<Postings>
+    requires { AllPairs (λ a b. slice_cmp nat_cmp a.now b.now ≡ Less) names.now }
+    ensures { IfOk result (λ postings.
+        postings ≡ map (λ name. posting_in groups.entry name.now) names.now) }
 {
-    let mut entries = Vec::new(alloc);
-    let mut hits = Vec::new(alloc);
+    let mut entries = Vec::with_capacity(alloc, names.len())?;
+    let mut total: u64 = 0;
     for name in names {
-        push_posting(
-            alloc,
-            &mut entries,
-            &mut hits,
-            name,
-            hits_under(groups, name),
-        )?;
+        let mut hits = take_group(alloc, &mut groups, name);
+        hits.shrink_to_fit();
+        total = total.checked_add(hits.len() as u64).ok_or(NoMemory)?;
+        entries.push(Entry::new(alloc, name, hits)?)?;
     }
-    entries.shrink_to_fit();
-    hits.shrink_to_fit();
-    Ok((entries, hits))
+    Ok(Postings { entries, total })
 }
 
 impl Postings {
@@ -130,8 +100,7 @@ impl Postings {
     {
         let groups = group_hits(alloc, files)?;
         let names = sorted_names(alloc, &groups)?;
-        let (entries, hits) = lay_out(alloc, &groups, names.as_slice())?;
-        Ok(Postings { entries, hits })
+        lay_out(alloc, groups, names.as_slice())
     }
 
     /// The hits of a name, in their order; none where no hit has it. Each name that the search
@@ -142,10 +111,7 @@ impl Postings {
         ensures cost { 2 ^ (steps.new - steps.old) ≤ 2 * length self.now + 1 }
     {
         match place_of(self.entries.as_slice(), name.as_bytes(), steps) {
-            Some(place) => {
-                let entry = &self.entries[place];
-                &self.hits[entry.first..entry.after]
-            }
+            Some(place) => self.entries[place].hits(),
             None => &[],
         }
     }
@@ -154,6 +120,6 @@ impl Postings {
     pub fn total(&self) -> u64
         ensures { result ≡ sum_by (λ p. length p.hits) self.now }
     {
-        self.hits.len() as u64
+        self.total
     }
 }

@@ -3,9 +3,10 @@
 ghost use Rattle.std.specs.Prelude.{◌≡◌, ℕ, ◌≤◌, ◌<◌, ◌-◌, ◌+◌, ◌*◌, ◌^◌, length, AllPairs, All};
 ghost use Rattle.std.specs.Prelude.{MatchOption, false};
 ghost use Rattle.std.specs.Str.{bytes_eq};
-ghost use Rattle.ident_index.specs.Tables.{IsEntryBelow, IsNamedAt};
+ghost use Rattle.ident_index.specs.Postings.{IsNameBelow};
+ghost use Rattle.ident_index.specs.Tables.{IsNamedAt};
 
-use crate::postings::Entry;
+use crate::entry::Entry;
 use crate::steps::Steps;
 use std::cmp::Ordering;
 use std::sync::ledger::Ledger;
@@ -17,9 +18,9 @@ pub(crate) fn place_of<L: Ledger>(
     name: &[u8],
     steps: &mut Steps<L>,
 ) -> Option<usize>
-    requires { AllPairs IsEntryBelow entries.now }
+    requires { AllPairs IsNameBelow entries.now }
     ensures found { MatchOption result
-        (All (λ e. bytes_eq name.now e.name.items ≡ false) entries.now)
+        (All (λ e. bytes_eq name.now e.name ≡ false) entries.now)
         (IsNamedAt name.now entries.now) }
     ensures later { steps.old ≤ steps.new }
     ensures cost { 2 ^ (steps.new - steps.old) ≤ 2 * length entries.now + 1 }
@@ -28,8 +29,7 @@ pub(crate) fn place_of<L: Ledger>(
     let mut high = entries.len();
     while low < high {
         let middle = low + (high - low) / 2;
-        steps.tick();
-        match entries[middle].name.as_slice().cmp(name) {
+        match entries[middle].compare(name, steps) {
             Ordering::Less => low = middle + 1,
             Ordering::Equal => return Some(middle),
             Ordering::Greater => high = middle,

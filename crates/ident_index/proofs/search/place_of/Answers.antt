@@ -1,8 +1,8 @@
-use Rattle.std.proofs.Common.{◌≡◌, ℕ, List, ◌≤◌, ◌<◌, ◌-◌, ◌+◌, ◌*◌, ◌^◌, length, ◌/◌, arith, subst, sym, ap, ◌∙◌}
+use Rattle.std.proofs.Common.{◌≡◌, ◌≤◌, ◌<◌, ◌-◌, ◌+◌, ◌*◌, ◌^◌, length, ◌/◌, arith, subst, sym, ◌∙◌}
 use Rattle.std.specs.Ordering.{nat_cmp}
 use Rattle.std.specs.Cmp.Lexicographic.{slice_cmp}
 use Rattle.std.specs.declared.cmp.Ordering.TheVariants.{Less, Equal, Greater}
-use Rattle.ident_index.specs.declared.postings.Entry.{Entry}
+use Rattle.ident_index.specs.Postings.{Posting}
 use Rattle.ident_index.proofs.Finding.{above_more, below_more, named_here, none_here}
 use Rattle.ident_index.proofs.Halves.{halved, counted}
 use Rattle.ident_index.proofs.search.place_of.Goals as goal
@@ -12,18 +12,16 @@ loop-low-preserved-in-Less g c =
     let was = c.loop-low.invariant in
     let middle = c.loop-low.low + (c.loop-low.high - c.loop-low.low) / 2 in
     let k = c.loop-low.steps - c.args.steps.now in
-    let one : k + 1 ≡ c.tick.new.self - c.args.steps.now = omega (arith, was.later, c.tick.ensures) in
+    let one : k + 1 ≡ c.compare.new.steps - c.args.steps.now = omega (arith, was.later, c.compare.ensures.counted) in
     let small : (c.loop-low.high - (middle + 1)) * 2 ≤ c.loop-low.high - c.loop-low.low = omega (arith, c.loop-low-test.true) in
     let within : middle < length c.args.entries.now = omega (arith, was.within, c.loop-low-test.true) in
-    let less : slice_cmp nat_cmp c.index-entries-middle.result.name.items c.args.name.now ≡ Less =
-    subst (λ (y : Entry). slice_cmp nat_cmp y.name.items c.args.name.now ≡ Less) (sym c.index-entries-middle.is)
-    (ap (λ (l : List ℕ). slice_cmp nat_cmp l c.args.name.now) (sym c.as_slice.ensures.value) ∙ sym c.cmp.ensures ∙ c.in-Less.is) in
+    let less : slice_cmp nat_cmp c.index-entries-middle.result.name c.args.name.now ≡ Less = sym c.compare.ensures.compared ∙ c.in-Less.is in
     record {
       ordered = omega (arith, c.loop-low-test.true);
       within = was.within;
       below = below_more c.args.entries.now c.args.name.now c.requires middle within c.index-entries-middle.result (sym c.index-entries-middle.is) less;
       above = was.above;
-      later = omega (arith, was.later, c.tick.ensures);
+      later = omega (arith, was.later, c.compare.ensures.counted);
       left = subst (λ s. (c.loop-low.high - (middle + 1)) * 2 ^ s ≤ length c.args.entries.now) one (halved _ _ k _ small was.left);
       cost = subst (λ s. 2 ^ s ≤ 2 * length c.args.entries.now + 1) one (counted _ k _ (omega (arith, c.loop-low-test.true)) was.left);
     }
@@ -34,14 +32,13 @@ returns-in-Equal-clause-found g c =
     let middle = c.loop-low.low + (c.loop-low.high - c.loop-low.low) / 2 in
     let within : middle < length c.args.entries.now = omega (arith, was.within, c.loop-low-test.true) in
     named_here c.args.entries.now c.args.name.now c.requires middle within c.index-entries-middle.result (sym c.index-entries-middle.is)
-    (subst (λ (y : Entry). slice_cmp nat_cmp y.name.items c.args.name.now ≡ Equal) (sym c.index-entries-middle.is)
-    (ap (λ (l : List ℕ). slice_cmp nat_cmp l c.args.name.now) (sym c.as_slice.ensures.value) ∙ sym c.cmp.ensures ∙ c.in-Equal.is))
+    (sym c.compare.ensures.compared ∙ c.in-Equal.is)
 
 pub returns-in-Equal-clause-cost : goal.returns-in-Equal-clause-cost
 returns-in-Equal-clause-cost g c =
     let was = c.loop-low.invariant in
     let k = c.loop-low.steps - c.args.steps.now in
-    let one : k + 1 ≡ c.tick.new.self - c.args.steps.now = omega (arith, was.later, c.tick.ensures) in
+    let one : k + 1 ≡ c.compare.new.steps - c.args.steps.now = omega (arith, was.later, c.compare.ensures.counted) in
     subst (λ s. 2 ^ s ≤ 2 * length c.args.entries.now + 1) one (counted _ k _ (omega (arith, c.loop-low-test.true)) was.left)
 
 pub loop-low-preserved : goal.loop-low-preserved
@@ -49,7 +46,7 @@ loop-low-preserved g c =
     let was = c.loop-low.invariant in
     let middle = c.loop-low.low + (c.loop-low.high - c.loop-low.low) / 2 in
     let k = c.loop-low.steps - c.args.steps.now in
-    let one : k + 1 ≡ c.tick.new.self - c.args.steps.now = omega (arith, was.later, c.tick.ensures) in
+    let one : k + 1 ≡ c.compare.new.steps - c.args.steps.now = omega (arith, was.later, c.compare.ensures.counted) in
     let small : (middle - c.loop-low.low) * 2 ≤ c.loop-low.high - c.loop-low.low = omega (arith, c.loop-low-test.true) in
     let within : middle < length c.args.entries.now = omega (arith, was.within, c.loop-low-test.true) in
     record {
@@ -57,9 +54,8 @@ loop-low-preserved g c =
       within = omega (arith, was.within, c.loop-low-test.true);
       below = was.below;
       above = above_more c.args.entries.now c.args.name.now c.requires middle within c.index-entries-middle.result (sym c.index-entries-middle.is)
-          (subst (λ (y : Entry). slice_cmp nat_cmp y.name.items c.args.name.now ≡ Greater) (sym c.index-entries-middle.is)
-          (ap (λ (l : List ℕ). slice_cmp nat_cmp l c.args.name.now) (sym c.as_slice.ensures.value) ∙ sym c.cmp.ensures ∙ c.in-Greater.is));
-      later = omega (arith, was.later, c.tick.ensures);
+          (sym c.compare.ensures.compared ∙ c.in-Greater.is);
+      later = omega (arith, was.later, c.compare.ensures.counted);
       left = subst (λ s. (middle - c.loop-low.low) * 2 ^ s ≤ length c.args.entries.now) one (halved _ _ k _ small was.left);
       cost = subst (λ s. 2 ^ s ≤ 2 * length c.args.entries.now + 1) one (counted _ k _ (omega (arith, c.loop-low-test.true)) was.left);
     }

@@ -1,27 +1,25 @@
-use Rattle.std.proofs.Common.{◌≡◌, sym, ap, ◌∙◌, subst, slice_range, All, false}
+use Rattle.std.proofs.Common.{◌≡◌, sym, ap, ◌∙◌, subst, All, false}
 use Rattle.std.specs.Str.{bytes_eq}
-use Rattle.ident_index.specs.declared.postings.Entry.{Entry}
-use Rattle.ident_index.specs.Postings.{hits_at}
+use Rattle.ident_index.specs.Postings.{Posting, hits_at}
 use Rattle.ident_index.specs.Tables.{IsNamedAt}
 use Rattle.ident_index.proofs.Finding.{hits_at_none, hits_at_place}
 use Rattle.ident_index.proofs.postings.Postings.find.Goals as goal
 
 pub returns-in-Some-clause-found : goal.returns-in-Some-clause-found
 returns-in-Some-clause-found g c =
-    let hits = c.self.inside.hits.items in
     let entries = c.self.inside.entries.items in
     let named : IsNamedAt c.as_bytes.result.now c.as_slice.result.now c.in-Some.place = c.in-Some.ensures.found in
     let named' : IsNamedAt c.args.name.now entries c.in-Some.place =
     subst (λ name. IsNamedAt name entries c.in-Some.place) c.as_bytes.ensures.value
     (subst (λ es. IsNamedAt c.as_bytes.result.now es c.in-Some.place) c.as_slice.ensures.value named) in
-    let found = hits_at_place hits entries c.args.name.now c.self.invariant.rising c.in-Some.place c.index-entry.result.now named' (sym c.index-entry.ensures) in
-    ap (λ hs. slice_range hs c.index-entry.result.now.first c.index-entry.result.now.after) c.deref.ensures.value
-    ∙ sym found ∙ ap (λ ps. hits_at ps c.args.name.now) c.self.view_is
+    c.hits.ensures
+    ∙ sym (hits_at_place entries c.args.name.now c.self.invariant.rising c.in-Some.place c.index.result.now named' (sym c.index.ensures))
+    ∙ ap (λ ps. hits_at ps c.args.name.now) c.self.view_is
 
 pub returns-in-None-clause-found : goal.returns-in-None-clause-found
 returns-in-None-clause-found g c =
     let entries = c.self.inside.entries.items in
-    let none : All (λ e. bytes_eq c.args.name.now e.name.items ≡ false) entries =
-    subst (λ name. All (λ (e : Entry). bytes_eq name e.name.items ≡ false) entries) c.as_bytes.ensures.value
-    (subst (All (λ (e : Entry). bytes_eq c.as_bytes.result.now e.name.items ≡ false)) c.as_slice.ensures.value c.in-None.ensures.found) in
-    sym (hits_at_none c.self.inside.hits.items entries c.args.name.now none) ∙ ap (λ ps. hits_at ps c.args.name.now) c.self.view_is
+    let none : All (λ e. bytes_eq c.args.name.now e.name ≡ false) entries =
+    subst (λ name. All (λ (e : Posting). bytes_eq name e.name ≡ false) entries) c.as_bytes.ensures.value
+    (subst (All (λ (e : Posting). bytes_eq c.as_bytes.result.now e.name ≡ false)) c.as_slice.ensures.value c.in-None.ensures.found) in
+    sym (hits_at_none entries c.args.name.now none) ∙ ap (λ ps. hits_at ps c.args.name.now) c.self.view_is
