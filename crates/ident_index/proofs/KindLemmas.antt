@@ -1,5 +1,5 @@
 -- What the first of some names at an offset is.
-use Rattle.std.proofs.Common.{◌≡◌, ◌<◌, ◌≤◌, ℕ, zero, suc, Bool, true, false, cond, List, [], ◌∷◌, Some, None, All, filter, length, get_or, refl, sym, ap, ◌∙◌, arith, inl, inr}
+use Rattle.std.proofs.Common.{◌≡◌, ◌<◌, ℕ, Bool, true, false, List, All, filter, length, get_or, sym, ap, ◌∙◌, arith, inl, inr}
 use Rattle.std.specs.Prelude.{◌==◌}
 use Rattle.std.specs.List.{find}
 use Rattle.std.specs.List.Sorted.{IsNonDecreasingBy, IsStableByKey, ties}
@@ -8,7 +8,6 @@ use Rattle.std.specs.Ordering.{is_lt, nat_cmp}
 use Rattle.std.proofs.lemmas.Bool.{cases_lt}
 use Rattle.std.proofs.lemmas.Bool.Decides.{nat_tests}
 use Rattle.std.proofs.lemmas.List.Elements.{filter_agree}
-use Rattle.ident_index.specs.declared.hit.HitKind.{HitKind}
 use Rattle.ident_index.specs.declared.hit.HitKind.TheVariants.{Usage}
 use Rattle.ident_index.specs.Hits.{kind_at}
 use Rattle.ident_index.specs.Naming.{Name}

@@ -17,7 +17,7 @@ use Rattle.std.proofs.lemmas.Slice.Eq.{bytes_eq-Decides}
 use Rattle.ident_index.specs.declared.hit.Hit.{Hit}
 use Rattle.ident_index.specs.Postings.{IsNameBelow, IsTableOf, NamedHit, Posting, hits_named}
 use Rattle.ident_index.specs.Tables.{HasGroups, has_group, hits_in, posting_in}
-use Rattle.ident_index.proofs.Finding.{Name, bytes_eq-sym, unlike_name}
+use Rattle.ident_index.proofs.Finding.{Name, unlike_name}
 use Rattle.ident_index.proofs.Lists.{AllPairs-map}
 use Rattle.ident_index.proofs.Sorting.{any_contained}
 

@@ -45,8 +45,8 @@ rising_same (p ∷ ps) [] a b one other = absurd (omega (arith, (one 0 p (omega 
 rising_same (p ∷ ps) (q ∷ qs) a b one other =
     let first : p ≡ q = same_first p q ps qs a b (one 0 p (omega arith)) (other 0 q (omega arith)) in
     let rest = rising_same ps qs (rising_tail p ps a) (rising_tail q qs b)
-        (rest_in p q ps qs first a (λ k d h. one (suc k) d (omega arith)))
-        (rest_in q p qs ps (sym first) b (λ k d h. other (suc k) d (omega arith))) in
+    (rest_in p q ps qs first a (λ k d h. one (suc k) d (omega arith)))
+    (rest_in q p qs ps (sym first) b (λ k d h. other (suc k) d (omega arith))) in
     λ i. first i ∷ rest i
 
 -- what one table has, another has

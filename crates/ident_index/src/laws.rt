@@ -21,7 +21,7 @@ pub fn names_of_hits()
     ensures named { (source : List ℕ) (tokens : List Token) (comments : List Comment) (file : File)
         (number : ℕ) → Reads source tokens comments
         → map (λ n. n.name) (named_of source (hits_of source tokens file number))
-          ≡ map (text_of source) (identifiers tokens) }
+        ≡ map (text_of source) (identifiers tokens) }
 {}
 
 /// The hits of sources with readings that have a name are one for each identifier with that text,
@@ -30,7 +30,7 @@ pub fn names_of_hits()
 pub fn hits_of_a_name()
     ensures texts { (name : List ℕ) (files : List ReadFile) → All IsReadFile files
         → hits_named name (named_of_all (map source_and_hits_of files))
-          ≡ flat_map (hits_with_text name) files }
+        ≡ flat_map (hits_with_text name) files }
     ensures rise { (name : List ℕ) (files : List ReadFile) → All IsReadFile files
         → AllPairs (λ a b. a.number < b.number) files
         → AllPairs IsHitBelow (flat_map (hits_with_text name) files) }

@@ -1,13 +1,13 @@
-ghost use Rattle.std.specs.Prelude.{◌≡◌, ◌<◌, All, IfOk};
+ghost use Rattle.std.specs.Prelude.{◌≡◌, ◌<◌, ◌≤◌, ◌+◌, IfOk, length};
 ghost use Rattle.ident_index.specs.Postings.{HasNames};
 
-use crate::{Hit, HitFile, HitKind, Postings, Steps, hits_of};
+use crate::{Hit, HitFile, Postings, Steps, hits_of, names_of_hits};
 use go_ast::{
     Decl, Element, Field, File, FuncDecl, Group, ImportName, ImportSpec, MAX_SOURCE_BYTES, Param,
     Receiver, Signature, Span, Term, TokenRange, TypeExpr, TypeParam, TypeSpec, ValueSpec,
 };
 use go_scanner::scan;
-use plain_data::{Bytes, Mem, NoMemory, Seq, Txt};
+use plain_data::{Mem, Seq};
 use sqlite_items::Boxed;
 use std::alloc::{AllocError, Global};
 use std::marker::Brand;
@@ -16,78 +16,104 @@ use std::process::Abort;
 use std::sync::ledger::{Blank, Ledger};
 use std::test::Fail;
 
-/// A file whose hits stand at these offsets, which are those of characters.
-fn file(alloc: Global, number: u32, source: &str, offsets: &[u32]) -> Mem<HitFile>
-    ensures { IfOk result HasNames }
-{
-    let mut hits = Seq::new(alloc);
-    for offset in offsets {
-        if !source.is_char_boundary(*offset as usize) {
-            return Err(NoMemory);
-        }
-        hits.push(Hit {
-            file: number,
-            offset: *offset,
-            line: 1,
-            kind: HitKind::Usage,
-        })?;
+#[test]
+fn a_hit_takes_16_bytes(rt: HostRuntime) {
+    assert_eq!(rt; size_of::<Hit>(), 16);
+}
+
+/// A file of a package whose name stands at offset 8, with these declarations.
+fn file_of(decls: Seq<Decl>) -> File {
+    File {
+        package: letter(8),
+        decls,
     }
-    Ok(HitFile {
-        source: Bytes::from_slice(alloc, source.as_bytes())?,
-        hits,
-    })
 }
 
-/// Two files with one name in both, and the table of their names.
-fn table_of_two(alloc: Global, first: &str, second: &str, places: &[u32]) -> Mem<Postings> {
-    let mut files = Vec::new(alloc);
-    files.push(file(alloc, 3, first, places)?)?;
-    files.push(file(alloc, 5, second, &[5, 7])?)?;
-    Postings::build(alloc, files.as_slice())
+/// The identifiers of a source with these declarations.
+fn hits_in(
+    rt: &(impl Abort + AllocGlobal),
+    number: u32,
+    source: &str,
+    decls: Seq<Decl>,
+) -> Result<Seq<Hit>, Fail>
+    ensures { IfOk result (λ hits. HasNames source.now hits) }
+{
+    let source = source.as_bytes();
+    assert!(rt; source.len() <= MAX_SOURCE_BYTES);
+    let scanned = scan(rt.alloc(), source)?;
+    let hits = hits_of(rt.alloc(), source, &scanned, &file_of(decls), number)?;
+    names_of_hits();
+    Ok(hits)
 }
 
-fn found_by<'p, L: Ledger>(postings: &'p Postings, name: &Txt, blank: Blank) -> &'p [Hit]
+/// The table of some sources, which are numbered from 0.
+fn table_of(rt: &(impl Abort + AllocGlobal), sources: [&str; 3]) -> Result<Postings, Fail> {
+    let first = hits_in(rt, 0, sources[0], Seq::new(rt.alloc()))?;
+    let second = hits_in(rt, 1, sources[1], Seq::new(rt.alloc()))?;
+    let third = hits_in(rt, 2, sources[2], Seq::new(rt.alloc()))?;
+    let files = [
+        HitFile {
+            source: sources[0].as_bytes(),
+            hits: first.as_slice(),
+        },
+        HitFile {
+            source: sources[1].as_bytes(),
+            hits: second.as_slice(),
+        },
+        HitFile {
+            source: sources[2].as_bytes(),
+            hits: third.as_slice(),
+        },
+    ];
+    Ok(Postings::build(rt.alloc(), &files)?)
+}
+
+/// The hits of a name, found with at most four looks where there are at most twelve names.
+fn find_in_four<'p, L: Ledger>(
+    postings: &'p Postings,
+    name: &str,
+    steps: &mut Steps<L>,
+) -> &'p [Hit]
+    ensures { length postings.now ≤ 12 → steps.new ≤ steps.old + 4 }
+{
+    postings.find(name, steps)
+}
+
+fn found_by<'p, L: Ledger>(postings: &'p Postings, name: &str, blank: Blank) -> &'p [Hit]
     requires name { blank.name ≡ L.name }
     requires parts { blank.parts ≡ L.parts }
     requires some { 0 < blank.parts }
 {
     let mut steps = Steps::<L>::new(blank);
-    postings.find(name.as_str(), &mut steps)
+    find_in_four(postings, name, &mut steps)
 }
 
 /// The hits of a name.
-fn found<'p>(postings: &'p Postings, name: &Txt) -> &'p [Hit] {
+fn found<'p>(postings: &'p Postings, name: &str) -> &'p [Hit] {
     found_by::<Brand>(postings, name, Blank::new(1))
 }
 
 /// The hits of a name, each as its file and its offset.
 fn places(alloc: Global, postings: &Postings, name: &str) -> Result<String, AllocError> {
-    let name = Txt::from_str(alloc, name).map_err(|_| AllocError)?;
     let mut places = String::new(alloc);
-    for hit in found(postings, &name) {
+    for hit in found(postings, name) {
         write!(places, "{}:{} ", hit.file, hit.offset)?;
     }
     Ok(places)
 }
 
 #[test]
-fn a_hit_takes_16_bytes(rt: HostRuntime) {
-    assert_eq!(rt; size_of::<Hit>(), 16);
-}
-
-#[test]
 fn names_are_found_at_both_ends_and_between(rt: HostRuntime) -> Result<(), Fail> {
-    let postings = table_of_two(rt.alloc(), "b zz a b", "// b\nb é9", &[0, 2, 5, 7])?;
-    assert_eq!(rt; postings.total(), 6);
+    let first = "package b\nvar zz, a, é9 = b\n";
+    let postings = table_of(&rt, [first, "package b\n", "package b\nvar zz = b\n"])?;
+    assert_eq!(rt; postings.total(), 9);
     for (name, expected) in [
-        ("a", "3:5 "),
-        ("b", "3:0 3:7 5:5 "),
-        ("zz", "3:2 "),
-        ("é9", "5:7 "),
+        ("a", "0:18 "),
+        ("b", "0:8 0:27 1:8 2:8 2:19 "),
+        ("zz", "0:14 2:14 "),
+        ("é9", "0:21 "),
         ("", ""),
         ("bb", ""),
-        ("c", ""),
-        ("é", ""),
         ("é99", ""),
     ] {
         let told = places(rt.alloc(), &postings, name)?;
@@ -97,11 +123,92 @@ fn names_are_found_at_both_ends_and_between(rt: HostRuntime) -> Result<(), Fail>
 }
 
 #[test]
+fn words_in_comments_and_texts_are_no_hits(rt: HostRuntime) -> Result<(), Fail> {
+    let source = "package e\n// err is here\nvar err, s = f(err), \"err\"\n";
+    let postings = table_of(&rt, [source, "package e\n/* err */\n", "package e\n"])?;
+    let told = places(rt.alloc(), &postings, "err")?;
+    assert_eq!(rt; told.as_str(), "0:29 0:40 ");
+    Ok(())
+}
+
+#[test]
 fn no_file_has_no_names(rt: HostRuntime) -> Result<(), Fail> {
     let postings = Postings::build(rt.alloc(), &[])?;
     assert_eq!(rt; postings.total(), 0);
-    let told = places(rt.alloc(), &postings, "a")?;
-    assert_eq!(rt; told.as_str(), "");
+    assert_eq!(rt; found(&postings, "a").len(), 0);
+    Ok(())
+}
+
+const FIRST: &str = "// Package p00000 is generated.\n\
+package p00000\n\
+\n\
+// I has one method.\n\
+type I interface{ M00000() int }\n\
+\n\
+// T has one field.\n\
+type T struct{ F [2]int }\n\
+\n\
+// M00000 answers a number.\n\
+func (t T) M00000() int { return 2 }\n\
+\n\
+// NewT makes a T.\n\
+func NewT() T { return T{} }\n";
+
+const SECOND: &str = "// Package p00001 is generated.\n\
+package p00001\n\
+\n\
+// I has one method.\n\
+type I interface{ M00001() int }\n\
+\n\
+// T has one field.\n\
+type T struct{ F [2]int }\n\
+\n\
+// M00001 answers a number.\n\
+func (t T) M00001() int { return 2 }\n\
+\n\
+// NewT makes a T.\n\
+func NewT() T { return T{} }\n";
+
+const THIRD: &str = "// Package p00002 is generated.\n\
+package p00002\n\
+\n\
+// I has one method.\n\
+type I interface{ M00002() int }\n\
+\n\
+// T has one field.\n\
+type T struct{ F [1]int }\n\
+\n\
+// M00002 answers a number.\n\
+func (t *T) M00002() int { return 1 }\n\
+\n\
+// NewT makes a T.\n\
+func NewT() T { return T{} }\n";
+
+/// How many hits the generated packages have of each name.
+const GENERATED: [(&str, usize); 12] = [
+    ("F", 3),
+    ("I", 3),
+    ("M00000", 2),
+    ("M00001", 2),
+    ("M00002", 2),
+    ("NewT", 3),
+    ("T", 12),
+    ("int", 9),
+    ("p00000", 1),
+    ("p00001", 1),
+    ("p00002", 1),
+    ("t", 3),
+];
+
+/// The counts add up to the total, so there are no other names.
+#[test]
+fn the_generated_packages_have_twelve_names(rt: HostRuntime) -> Result<(), Fail> {
+    let postings = table_of(&rt, [FIRST, SECOND, THIRD])?;
+    assert_eq!(rt; postings.total(), 42);
+    for (name, count) in GENERATED {
+        assert_eq!(rt; found(&postings, name).len(), count);
+    }
+    assert_eq!(rt; found(&postings, "zzz").len(), 0);
     Ok(())
 }
 
@@ -198,32 +305,16 @@ fn values(alloc: Global, names: &[u32], typ: TypeExpr) -> Mem<ValueSpec> {
     })
 }
 
-/// A file of the package `p` with these declarations.
-fn file_of(decls: Seq<Decl>) -> File {
-    File {
-        package: letter(8),
-        decls,
-    }
-}
-
 /// The line, the offset and the kind of each identifier of a file.
-fn hits_in(
+fn kinds_in(
     rt: &(impl Abort + AllocGlobal),
     source: &str,
     decls: Seq<Decl>,
 ) -> Result<String, Fail> {
     let mut told = String::new(rt.alloc());
-    let source = source.as_bytes();
-    assert!(rt; source.len() <= MAX_SOURCE_BYTES);
-    match scan(rt.alloc(), source) {
-        Ok(scanned) => {
-            let hits = hits_of(rt.alloc(), source, &scanned, &file_of(decls), 7)?;
-            for hit in hits.as_slice() {
-                assert_eq!(rt; hit.file, 7);
-                write!(told, "{}:{} {:?} ", hit.line, hit.offset, hit.kind)?;
-            }
-        }
-        Err(refused) => assert!(rt; false, "{refused:?} of {source:?}"),
+    for hit in hits_in(rt, 7, source, decls)?.as_slice() {
+        assert_eq!(rt; hit.file, 7);
+        write!(told, "{}:{} {:?} ", hit.line, hit.offset, hit.kind)?;
     }
     Ok(told)
 }
@@ -239,7 +330,7 @@ fn packages_imports_and_values_are_declared(rt: HostRuntime) -> Result<(), Fail>
     decls.push(Decl::Const(group(alloc, constants)?))?;
     let variable = values(alloc, &[60], named(alloc, 62))?;
     decls.push(Decl::Var(group(alloc, variable)?))?;
-    let told = hits_in(&rt, source, decls)?;
+    let told = kinds_in(&rt, source, decls)?;
     assert_eq!(rt;
         told.as_str(),
         "1:8 PackageName 2:17 ImportName 4:42 ConstName 4:45 ConstName 4:47 Usage 4:51 Usage \
@@ -286,7 +377,7 @@ fn fields_and_methods_of_types_are_declared(rt: HostRuntime) -> Result<(), Fail>
     };
     let elements = two(alloc, method, embedded)?;
     decls.push(type_decl(alloc, 48, Seq::new(alloc), TypeExpr::Interface(elements))?)?;
-    let told = hits_in(&rt, source, decls)?;
+    let told = kinds_in(&rt, source, decls)?;
     assert_eq!(rt;
         told.as_str(),
         "1:8 PackageName 2:15 TypeName 2:17 Usage 2:19 Usage 2:31 VarName 2:34 VarName 2:36 Usage \
@@ -326,7 +417,7 @@ fn what_stands_in_a_body_is_a_use(rt: HostRuntime) -> Result<(), Fail> {
         params: Seq::new(alloc),
     };
     decls.push(function(alloc, 73, Some(receiver), Seq::new(alloc)))?;
-    let told = hits_in(&rt, source, decls)?;
+    let told = kinds_in(&rt, source, decls)?;
     assert_eq!(rt;
         told.as_str(),
         "1:8 PackageName 2:15 FuncName 2:17 Usage 2:28 VarName 2:30 Usage 2:42 Usage 2:53 Usage \
@@ -345,19 +436,11 @@ fn what_stands_in_a_length_or_a_value_is_a_use(rt: HostRuntime) -> Result<(), Fa
         elem: Boxed::new(alloc, elem)?,
     };
     let variable = Decl::Var(group(alloc, values(alloc, &[14], array)?)?);
-    let told = hits_in(&rt, source, one(alloc, variable)?)?;
+    let told = kinds_in(&rt, source, one(alloc, variable)?)?;
     assert_eq!(rt;
         told.as_str(),
         "1:8 PackageName 2:14 VarName 2:17 Usage 2:28 VarName 2:30 Usage 2:36 Usage 2:47 Usage \
          2:49 Usage "
     );
-    Ok(())
-}
-
-#[test]
-fn names_in_comments_and_texts_are_no_hits(rt: HostRuntime) -> Result<(), Fail> {
-    let source = "package p // q\n/* q */ var _ = \"q\"\n";
-    let told = hits_in(&rt, source, Seq::new(rt.alloc()))?;
-    assert_eq!(rt; told.as_str(), "1:8 PackageName 2:27 Usage ");
     Ok(())
 }

@@ -1,4 +1,4 @@
-use Rattle.std.proofs.Common.{◌≡◌, ◌+◌, length, arith, ap, sym, subst, ◌∙◌, ◌<◌, List, drop, take, filter, get_or, refl, Vec, Global}
+use Rattle.std.proofs.Common.{◌≡◌, ◌+◌, length, arith, ap, sym, subst, ◌∙◌, ◌<◌, drop, get_or, Vec, Global}
 use Rattle.go_ast.specs.declared.token.Token.{Token}
 use Rattle.go_ast.specs.declared.token.TokenKind.TheVariants.{Ident}
 use Rattle.go_ast.specs.Position.{line_of, line_starts}
@@ -43,14 +43,14 @@ loop-token-preserved c =
             subst (λ p. AreNamesBefore names token.span.end p.names) (sym w.passed-is)
                 (names_on names start token.span.end w.names_before.result next.ends before),
             ap (λ (v : Vec Hit Global). v.items) w.hits-is ∙ w.in_ok-push.ensures.items
-            ∙ passing hit (λ token. is_ident token.kind) tokens i d c.loop-token.hits.items c.loop-token-test.true c.loop-token.invariant.4 _ (test ∙ w.if-eq.true)
-            (ap (λ n. record { file = c.args.number; offset = start; line = n; kind = w.kind_at.result })
-            (line_counted source start w.lines_to.result
-            (omega (arith, next.ends, order_within (drop (i + 1) tokens) token.span.end (length source) next.left))
-            (subst (λ l. AreLinesTo l start w.lines_to.result) first lines)
-            (subst (λ l. w.lines_to.result < length l → start < get_or l w.lines_to.result 0) first w.lines_to.ensures.no_more))
-            ∙ ap (λ k. record { file = c.args.number; offset = start; line = line_of source start; kind = k })
-            (w.kind_at.ensures ∙ ap (λ ns. kind_at ns start) w.as_slice-then-eq.ensures.value ∙ c.in_ok-names.ensures.same start)),
+                ∙ passing hit (λ token. is_ident token.kind) tokens i d c.loop-token.hits.items c.loop-token-test.true c.loop-token.invariant.4 _ (test ∙ w.if-eq.true)
+                (ap (λ n. record { file = c.args.number; offset = start; line = n; kind = w.kind_at.result })
+                (line_counted source start w.lines_to.result
+                (omega (arith, next.ends, order_within (drop (i + 1) tokens) token.span.end (length source) next.left))
+                (subst (λ l. AreLinesTo l start w.lines_to.result) first lines)
+                (subst (λ l. w.lines_to.result < length l → start < get_or l w.lines_to.result 0) first w.lines_to.ensures.no_more))
+                ∙ ap (λ k. record { file = c.args.number; offset = start; line = line_of source start; kind = k })
+                (w.kind_at.ensures ∙ ap (λ ns. kind_at ns start) w.as_slice-then-eq.ensures.value ∙ c.in_ok-names.ensures.same start)),
           )
       | else-eq w ↦ (
         token.span.end,
@@ -60,6 +60,6 @@ loop-token-preserved c =
         subst (λ p. AreNamesBefore names token.span.end p.names) (sym w.passed-is)
             (names_on names from token.span.end c.loop-token.passed.names (omega (arith, next.begins, next.ends)) c.loop-token.invariant.3),
         ap (λ (v : Vec Hit Global). v.items) w.hits-is
-        ∙ passed hit (λ token. is_ident token.kind) tokens i d c.loop-token.hits.items c.loop-token-test.true c.loop-token.invariant.4 (test ∙ w.if-eq.false),
+            ∙ passed hit (λ token. is_ident token.kind) tokens i d c.loop-token.hits.items c.loop-token-test.true c.loop-token.invariant.4 (test ∙ w.if-eq.false),
       )
     ]

@@ -1,8 +1,7 @@
 use Rattle.std.proofs.Common.{◌≡◌, ◌≤◌, ◌<◌, ◌-◌, ◌+◌, ◌*◌, ◌^◌, length, ◌/◌, arith, subst, sym, ◌∙◌}
 use Rattle.std.specs.Ordering.{nat_cmp}
 use Rattle.std.specs.Cmp.Lexicographic.{slice_cmp}
-use Rattle.std.specs.declared.cmp.Ordering.TheVariants.{Less, Equal, Greater}
-use Rattle.ident_index.specs.Postings.{Posting}
+use Rattle.std.specs.declared.cmp.Ordering.TheVariants.{Less}
 use Rattle.ident_index.proofs.Finding.{above_more, below_more, named_here, none_here}
 use Rattle.ident_index.proofs.Halves.{halved, counted}
 use Rattle.ident_index.proofs.search.place_of.Goals as goal

@@ -1,4 +1,4 @@
-use Rattle.std.proofs.Common.{◌≡◌, ℕ, List, Bor, map, sym, subst}
+use Rattle.std.proofs.Common.{ℕ, List, Bor, map, sym, subst}
 use Rattle.std.proofs.lemmas.Result.{IfOk-weaker}
 use Rattle.ident_index.specs.Postings.{IsTableOf, Posting, named_of_all, source_and_hits}
 use Rattle.ident_index.proofs.Layouts.{posting_under, table_of}
