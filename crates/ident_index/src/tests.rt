@@ -1,4 +1,4 @@
-ghost use Rattle.std.specs.Prelude.{◌≡◌, ◌<◌, ◌≤◌, ◌+◌, IfOk, length};
+ghost use Rattle.std.specs.Prelude.{◌≡◌, ◌<◌, ◌≤◌, ◌+◌, All, IfOk, length};
 ghost use Rattle.ident_index.specs.Postings.{HasNames};
 
 use crate::{Hit, HitFile, Postings, Steps, hits_of, names_of_hits};
@@ -7,7 +7,7 @@ use go_ast::{
     Receiver, Signature, Span, Term, TokenRange, TypeExpr, TypeParam, TypeSpec, ValueSpec,
 };
 use go_scanner::scan;
-use plain_data::{Mem, Seq};
+use plain_data::{Bytes, Mem, Seq, Txt};
 use sqlite_items::Boxed;
 use std::alloc::{AllocError, Global};
 use std::marker::Brand;
@@ -46,40 +46,71 @@ fn hits_in(
     Ok(hits)
 }
 
-/// The table of some sources, which are numbered from 0.
-fn table_of(rt: &(impl Abort + AllocGlobal), sources: [&str; 3]) -> Result<Postings, Fail> {
-    let first = hits_in(rt, 0, sources[0], Seq::new(rt.alloc()))?;
-    let second = hits_in(rt, 1, sources[1], Seq::new(rt.alloc()))?;
-    let third = hits_in(rt, 2, sources[2], Seq::new(rt.alloc()))?;
-    let files = [
-        HitFile {
-            source: sources[0].as_bytes(),
-            hits: first.as_slice(),
-        },
-        HitFile {
-            source: sources[1].as_bytes(),
-            hits: second.as_slice(),
-        },
-        HitFile {
-            source: sources[2].as_bytes(),
-            hits: third.as_slice(),
-        },
-    ];
-    Ok(Postings::build(rt.alloc(), &files)?)
+/// A source with its identifiers.
+#[derive(Drop)]
+struct Source {
+    text: Bytes,
+    hits: Seq<Hit>,
+}
+
+fn source_of(rt: &(impl Abort + AllocGlobal), number: u32, text: &str) -> Result<Source, Fail>
+    ensures { IfOk result (λ source. HasNames source.text source.hits) }
+{
+    let hits = hits_in(rt, number, text, Seq::new(rt.alloc()))?;
+    let text = Bytes::from_slice(rt.alloc(), text.as_bytes())?;
+    Ok(Source { text, hits })
+}
+
+/// The identifiers of some sources, each with its number.
+fn read_all(rt: &(impl Abort + AllocGlobal), texts: &[(u32, &str)]) -> Result<Vec<Source>, Fail>
+    ensures { IfOk result (λ sources. All (λ s. HasNames s.text s.hits) sources.items) }
+{
+    let mut sources = Vec::new(rt.alloc());
+    for (number, text) in texts {
+        sources.push(source_of(rt, *number, text)?)?;
+    }
+    Ok(sources)
+}
+
+fn file_from<'s>(source: &'s Source) -> HitFile<'s>
+    requires { HasNames source.now.text source.now.hits }
+    ensures { HasNames result.source.now result.hits.now }
+{
+    HitFile {
+        source: source.text.as_slice(),
+        hits: source.hits.as_slice(),
+    }
+}
+
+/// The table of some sources.
+fn index(alloc: Global, sources: &[Source]) -> Mem<Postings>
+    requires { All (λ s. HasNames s.text s.hits) sources.now }
+{
+    let mut files = Vec::new(alloc);
+    for source in sources {
+        files.push(file_from(source))?;
+    }
+    Postings::build(alloc, files.as_slice())
+}
+
+/// The table of some texts, each with the number of its file.
+fn table_of(rt: &(impl Abort + AllocGlobal), texts: &[(u32, &str)]) -> Result<Postings, Fail> {
+    let sources = read_all(rt, texts)?;
+    Ok(index(rt.alloc(), sources.as_slice())?)
 }
 
 /// The hits of a name, found with at most four looks where there are at most twelve names.
 fn find_in_four<'p, L: Ledger>(
     postings: &'p Postings,
-    name: &str,
+    name: &Txt,
     steps: &mut Steps<L>,
 ) -> &'p [Hit]
     ensures { length postings.now ≤ 12 → steps.new ≤ steps.old + 4 }
 {
-    postings.find(name, steps)
+    postings.find(name.as_str(), steps)
 }
 
-fn found_by<'p, L: Ledger>(postings: &'p Postings, name: &str, blank: Blank) -> &'p [Hit]
+fn found_by<'p, L: Ledger>(postings: &'p Postings, name: &Txt, blank: Blank) -> &'p [Hit]
     requires name { blank.name ≡ L.name }
     requires parts { blank.parts ≡ L.parts }
     requires some { 0 < blank.parts }
@@ -89,14 +120,21 @@ fn found_by<'p, L: Ledger>(postings: &'p Postings, name: &str, blank: Blank) -> 
 }
 
 /// The hits of a name.
-fn found<'p>(postings: &'p Postings, name: &str) -> &'p [Hit] {
+fn found<'p>(postings: &'p Postings, name: &Txt) -> &'p [Hit] {
     found_by::<Brand>(postings, name, Blank::new(1))
+}
+
+/// How many hits a name has.
+fn count(alloc: Global, postings: &Postings, name: &str) -> Mem<usize> {
+    let name = Txt::from_str(alloc, name)?;
+    Ok(found(postings, &name).len())
 }
 
 /// The hits of a name, each as its file and its offset.
 fn places(alloc: Global, postings: &Postings, name: &str) -> Result<String, AllocError> {
+    let name = Txt::from_str(alloc, name).map_err(|_| AllocError)?;
     let mut places = String::new(alloc);
-    for hit in found(postings, name) {
+    for hit in found(postings, &name) {
         write!(places, "{}:{} ", hit.file, hit.offset)?;
     }
     Ok(places)
@@ -105,13 +143,13 @@ fn places(alloc: Global, postings: &Postings, name: &str) -> Result<String, Allo
 #[test]
 fn names_are_found_at_both_ends_and_between(rt: HostRuntime) -> Result<(), Fail> {
     let first = "package b\nvar zz, a, é9 = b\n";
-    let postings = table_of(&rt, [first, "package b\n", "package b\nvar zz = b\n"])?;
-    assert_eq!(rt; postings.total(), 9);
+    let postings = table_of(&rt, &[(3, first), (5, "package b\nvar zz = b\n")])?;
+    assert_eq!(rt; postings.total(), 8);
     for (name, expected) in [
-        ("a", "0:18 "),
-        ("b", "0:8 0:27 1:8 2:8 2:19 "),
-        ("zz", "0:14 2:14 "),
-        ("é9", "0:21 "),
+        ("a", "3:18 "),
+        ("b", "3:8 3:27 5:8 5:19 "),
+        ("zz", "3:14 5:14 "),
+        ("é9", "3:21 "),
         ("", ""),
         ("bb", ""),
         ("é99", ""),
@@ -125,7 +163,7 @@ fn names_are_found_at_both_ends_and_between(rt: HostRuntime) -> Result<(), Fail>
 #[test]
 fn words_in_comments_and_texts_are_no_hits(rt: HostRuntime) -> Result<(), Fail> {
     let source = "package e\n// err is here\nvar err, s = f(err), \"err\"\n";
-    let postings = table_of(&rt, [source, "package e\n/* err */\n", "package e\n"])?;
+    let postings = table_of(&rt, &[(0, source)])?;
     let told = places(rt.alloc(), &postings, "err")?;
     assert_eq!(rt; told.as_str(), "0:29 0:40 ");
     Ok(())
@@ -135,7 +173,7 @@ fn words_in_comments_and_texts_are_no_hits(rt: HostRuntime) -> Result<(), Fail> 
 fn no_file_has_no_names(rt: HostRuntime) -> Result<(), Fail> {
     let postings = Postings::build(rt.alloc(), &[])?;
     assert_eq!(rt; postings.total(), 0);
-    assert_eq!(rt; found(&postings, "a").len(), 0);
+    assert_eq!(rt; count(rt.alloc(), &postings, "a")?, 0);
     Ok(())
 }
 
@@ -203,12 +241,12 @@ const GENERATED: [(&str, usize); 12] = [
 /// The counts add up to the total, so there are no other names.
 #[test]
 fn the_generated_packages_have_twelve_names(rt: HostRuntime) -> Result<(), Fail> {
-    let postings = table_of(&rt, [FIRST, SECOND, THIRD])?;
+    let postings = table_of(&rt, &[(0, FIRST), (1, SECOND), (2, THIRD)])?;
     assert_eq!(rt; postings.total(), 42);
-    for (name, count) in GENERATED {
-        assert_eq!(rt; found(&postings, name).len(), count);
+    for (name, hits) in GENERATED {
+        assert_eq!(rt; count(rt.alloc(), &postings, name)?, hits);
     }
-    assert_eq!(rt; found(&postings, "zzz").len(), 0);
+    assert_eq!(rt; count(rt.alloc(), &postings, "zzz")?, 0);
     Ok(())
 }
 
