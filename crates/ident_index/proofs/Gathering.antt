@@ -1,7 +1,7 @@
 -- The hits that are gathered under names.
 use Rattle.std.proofs.Common.{◌≡◌, ℕ, Bool, true, false, ◌||◌, Bor, List, [], ◌∷◌, ◌++◌, cond, if◌then◌else◌, map, filter, length, take, get_or, ◌<◌, ◌+◌, refl, sym, ap, ◌∙◌, append-nil}
 use Rattle.std.specs.List.{list_any, flat_map}
-use Rattle.std.specs.HashMap.{HashMap}
+use Rattle.std.specs.BTreeMap.{BTreeMap}
 use Rattle.std.specs.Global.{Vec}
 use Rattle.std.specs.Str.{bytes_eq}
 use Rattle.std.proofs.lemmas.List.{map-append}
@@ -26,7 +26,7 @@ or-false : (b : Bool) → (b || false) ≡ b
 or-false true = refl
 or-false false = refl
 
-pub gathered_more : {S : Type 0} (old new : HashMap (Bor (List ℕ)) (Vec Hit) S) (named : List NamedHit) (n : NamedHit) → HasGroups old named
+pub gathered_more : (old new : BTreeMap (Bor (List ℕ)) (Vec Hit)) (named : List NamedHit) (n : NamedHit) → HasGroups old named
     → ((q : List ℕ) → hits_in new q ≡ hits_in old q ++ (if bytes_eq q n.name then n.hit ∷ [] else []))
     → ((q : List ℕ) → has_group new q ≡ (has_group old q || bytes_eq q n.name))
     → HasGroups new (named ++ n ∷ [])
@@ -39,16 +39,3 @@ gathered_more old new named n gathered hits names = record {
       ∙ sym (ap (list_any (bytes_eq q)) (map-append (λ (m : NamedHit). m.name) named (n ∷ []))
       ∙ list_any-append (bytes_eq q) (map (λ (m : NamedHit). m.name) named) (n.name ∷ []));
 }
-
--- the hits of one file more
-pub named_more : (files : List HitFile) (i : ℕ) (file : HitFile) → i < length files → file ≡ get_or files i file
-    → named_of_all (map source_and_hits (take (i + 1) files)) ≡ named_of_all (map source_and_hits (take i files)) ++ named_of file.source.now file.hits.now
-named_more files i file within is =
-    let named : HitFile → List NamedHit = λ f. named_of f.source.now f.hits.now in
-    let more : take (i + 1) files ≡ take i files ++ file ∷ [] =
-    (take_at_read files i file within).1 ∙ ap (λ (f : HitFile). take i files ++ f ∷ []) (sym is) in
-    let flat : (fs : List HitFile) → named_of_all (map source_and_hits fs) ≡ flat_map named fs =
-    flat_map-map (λ s. named_of s.0 s.1) source_and_hits in
-    flat (take (i + 1) files) ∙ ap (flat_map named) more ∙ flat_map-append named (take i files) (file ∷ [])
-    ∙ ap (λ ns. ns ++ (named file ++ [])) (sym (flat (take i files)))
-    ∙ ap (λ ns. named_of_all (map source_and_hits (take i files)) ++ ns) (append-nil (named file))

@@ -10,5 +10,4 @@ mod OneTable
 mod Passing
 mod Readings
 mod Rising
-mod Sorting
 mod Texts

@@ -1,35 +1,35 @@
--- How a table of names is made: the hits are gathered by their names, and each name takes its hits
--- from there. The project's own; only proofs and contracts of private functions cite these.
-use Rattle.std.specs.Prelude.{◌≡◌, ℕ, ◌<◌, Bool, List, [], map, length, AllPairs}
-use Rattle.std.specs.Prelude.{get_or, is_some}
+-- How a table of names is made: the hits are gathered by their names in a map, and each name takes
+-- its hits from there. The project's own; only proofs and contracts of private functions cite these.
+use Rattle.std.specs.Prelude.{◌≡◌, ℕ, ◌<◌, Bool, List, [], map, length, AllPairs, get_or, is_some}
 use Rattle.std.specs.Option.{option_map_or}
 use Rattle.std.specs.List.{list_any, sum_by}
-use Rattle.std.specs.HashMap.{HashMap, get_by}
+use Rattle.std.specs.BTreeMap.{BTreeMap, get_by}
 use Rattle.std.specs.Str.{bytes_eq}
+use Rattle.std.specs.Ordering.{nat_cmp}
+use Rattle.std.specs.Cmp.Lexicographic.{slice_cmp}
 use Rattle.std.specs.Borrow.{Bor}
 use Rattle.std.specs.Global.{Vec}
 use Rattle.ident_index.specs.declared.hit.Hit.{Hit}
 use Rattle.ident_index.specs.Postings.{IsNameBelow, NamedHit, Posting, hits_named}
 
 -- the hits that are gathered under a name
-abbrev pub hits_in : {S : Type 0} → HashMap (Bor (List ℕ)) (Vec Hit) S → List ℕ → List Hit
+abbrev pub hits_in : BTreeMap (Bor (List ℕ)) (Vec Hit) → List ℕ → List Hit
 hits_in groups name =
-    option_map_or (λ hits. hits.items) (get_by (λ k. bytes_eq name k.now) groups) []
+    option_map_or (λ hits. hits.items) (get_by (λ k. slice_cmp nat_cmp name k.now) groups) []
 
 -- whether hits are gathered under a name
-abbrev pub has_group : {S : Type 0} → HashMap (Bor (List ℕ)) (Vec Hit) S → List ℕ → Bool
-has_group groups name = is_some (get_by (λ k. bytes_eq name k.now) groups)
+abbrev pub has_group : BTreeMap (Bor (List ℕ)) (Vec Hit) → List ℕ → Bool
+has_group groups name = is_some (get_by (λ k. slice_cmp nat_cmp name k.now) groups)
 
 -- gathered are exactly these hits, under their names
-pub record HasGroups {S : Type 0} (groups : HashMap (Bor (List ℕ)) (Vec Hit) S)
-    (named : List NamedHit) : Type 0 where
+pub record HasGroups (groups : BTreeMap (Bor (List ℕ)) (Vec Hit)) (named : List NamedHit) : Type 0 where
   pub hits : (name : List ℕ) → hits_in groups name ≡ hits_named name named
   pub names : (name : List ℕ)
       → has_group groups name ≡ list_any (bytes_eq name) (map (λ n. n.name) named)
 
 -- a name with the hits that are gathered under it
-abbrev pub posting_in : {S : Type 0} → HashMap (Bor (List ℕ)) (Vec Hit) S → List ℕ → Posting
-posting_in groups name = record { name = name; hits = hits_in groups name }
+abbrev pub posting_of : Bor (List ℕ) × Vec Hit → Posting
+posting_of group = record { name = group.0.now; hits = group.1.items }
 
 -- what holds of the fields of a table
 pub record IsLaidOut (postings : List Posting) (total : ℕ) : Type 0 where

@@ -11,11 +11,11 @@ use crate::hit::{Hit, HitFile};
 use go_scanner::front_word;
 use plain_data::Mem;
 use std::alloc::Global;
-use std::collections::HashMap;
+use std::collections::BTreeMap;
 use std::str;
 
-/// The hits of each name.
-pub(crate) type Groups<'a> = HashMap<&'a str, Vec<Hit>>;
+/// The hits of each name, by the bytes of the names.
+pub(crate) type Groups<'a> = BTreeMap<&'a str, Vec<Hit>>;
 
 /// The name that stands at an offset of a text.
 fn name_at(text: &str, offset: u32) -> &str
@@ -57,7 +57,7 @@ pub(crate) fn group_hits<'a>(alloc: Global, files: &[HitFile<'a>]) -> Mem<Groups
     ensures { IfOk result
         (λ groups. HasGroups groups (named_of_all (map source_and_hits files.now))) }
 {
-    let mut groups = HashMap::new(alloc);
+    let mut groups = BTreeMap::new(alloc);
     for file in files {
         add_file(&mut groups, file.source, file.hits)?;
     }

@@ -1,17 +1,15 @@
 //! The table of all names with their hits.
 
-ghost use Rattle.std.specs.Prelude.{◌≡◌, ◌≤◌, ◌+◌, ◌-◌, ◌*◌, ◌^◌, ◌↔◌, ℕ, All, AllPairs, Contains};
-ghost use Rattle.std.specs.Prelude.{IfOk, IsTrue, List, [], if◌then◌else◌, length, map};
+ghost use Rattle.std.specs.Prelude.{◌≡◌, ◌≤◌, ◌+◌, ◌-◌, ◌*◌, ◌^◌, All, IfOk, OnOk, length, map};
+ghost use Rattle.std.specs.BTreeMap.{IsOrdered};
 ghost use Rattle.std.specs.Cmp.Lexicographic.{slice_cmp};
 ghost use Rattle.std.specs.List.{sum_by};
 ghost use Rattle.std.specs.Ordering.{nat_cmp};
-ghost use Rattle.std.specs.Str.{bytes_eq};
-ghost use Rattle.std.specs.declared.cmp.Ordering.TheVariants.{Less};
 ghost use Rattle.ident_index.specs.Postings.{HasNames, IsTableOf, hits_at, named_of_all};
 ghost use Rattle.ident_index.specs.Postings.{source_and_hits};
-ghost use Rattle.ident_index.specs.Tables.{has_group, hits_in, posting_in};
+ghost use Rattle.ident_index.specs.Tables.{posting_of};
 
-use crate::entry::Entry;
+use crate::entry::{Entry, Names};
 use crate::groups::{Groups, group_hits};
 use crate::hit::{Hit, HitFile};
 use crate::search::place_of;
@@ -40,43 +38,15 @@ impl Model for Postings {
     ghost invariant = { λ p. IsLaidOut p.entries.items p.total };
 }
 
-/// The names under which hits are gathered, sorted.
-fn sorted_names<'a>(alloc: Global, groups: &Groups<'a>) -> Mem<Vec<&'a str>>
-    ensures rising { IfOk result
-        (λ names. AllPairs (λ a b. slice_cmp nat_cmp a.now b.now ≡ Less) names.items) }
-    ensures names { IfOk result (λ names. (q : List ℕ)
-        → Contains (map (λ name. name.now) names.items) q ↔ IsTrue (has_group groups.now q)) }
+/// The table of gathered hits.
+fn lay_out(alloc: Global, groups: Groups) -> Mem<Postings>
+    ensures ordered { OnOk result (IsOrdered (λ a b. slice_cmp nat_cmp a.now b.now) groups.entry) }
+    ensures laid { IfOk result (λ postings. postings ≡ map posting_of groups.entry.entries) }
 {
-    let mut names = Vec::with_capacity(alloc, groups.len())?;
-    for name in groups.keys() {
-        names.push(*name)?;
-    }
-    names.sort_unstable();
-    Ok(names)
-}
-
-/// Takes the hits of a name out of their group.
-fn take_group(alloc: Global, groups: &mut Groups, name: &str) -> Vec<Hit>
-    ensures taken { result.items ≡ hits_in groups.old name.now }
-    ensures rest { (q : List ℕ)
-        → hits_in groups.new q ≡ (if bytes_eq q name.now then [] else hits_in groups.old q) }
-{
-    match groups.remove(name) {
-        Some(hits) => hits,
-        None => Vec::new(alloc),
-    }
-}
-
-/// The table of gathered hits, with its names in this order.
-fn lay_out(alloc: Global, mut groups: Groups, names: &[&str]) -> Mem<Postings>
-    requires { AllPairs (λ a b. slice_cmp nat_cmp a.now b.now ≡ Less) names.now }
-    ensures { IfOk result (λ postings.
-        postings ≡ map (λ name. posting_in groups.entry name.now) names.now) }
-{
-    let mut entries = Vec::with_capacity(alloc, names.len())?;
+    let mut entries = Vec::with_capacity(alloc, groups.len())?;
     let mut total: u64 = 0;
-    for name in names {
-        let mut hits = take_group(alloc, &mut groups, name);
+    for (name, gathered) in groups {
+        let mut hits = gathered;
         hits.shrink_to_fit();
         total = total.checked_add(hits.len() as u64).ok_or(NoMemory)?;
         entries.push(Entry::new(alloc, name, hits)?)?;
@@ -92,15 +62,16 @@ impl Postings {
     /// and 16 bytes for each hit. (Go specification, "Identifiers".)
     ///
     /// # Errors
-    /// `NoMemory` where an allocation was refused.
+    /// `NoMemory` where an allocation was refused, and where there are 2^64 hits or more, which no
+    /// memory holds.
     pub fn build(alloc: Global, files: &[HitFile]) -> Mem<Postings>
         requires { All (λ file. HasNames file.source.now file.hits.now) files.now }
         ensures { IfOk result
             (λ postings. IsTableOf (named_of_all (map source_and_hits files.now)) postings) }
     {
         let groups = group_hits(alloc, files)?;
-        let names = sorted_names(alloc, &groups)?;
-        lay_out(alloc, groups, names.as_slice())
+        let postings = lay_out(alloc, groups)?;
+        Ok(postings)
     }
 
     /// The hits of a name, in their order; none where no hit has it. Each name that the search
@@ -110,7 +81,8 @@ impl Postings {
         ensures later { steps.old ≤ steps.new }
         ensures cost { 2 ^ (steps.new - steps.old) ≤ 2 * length self.now + 1 }
     {
-        match place_of(self.entries.as_slice(), name.as_bytes(), steps) {
+        let names = Names::new(self.entries.as_slice());
+        match place_of(&names, name.as_bytes(), steps) {
             Some(place) => self.entries[place].hits(),
             None => &[],
         }
