@@ -1,16 +1,14 @@
 -- The hits that are gathered under names.
-use Rattle.std.proofs.Common.{◌≡◌, ℕ, Bool, true, false, ◌||◌, Bor, List, [], ◌∷◌, ◌++◌, cond, if◌then◌else◌, map, filter, length, take, get_or, ◌<◌, ◌+◌, refl, sym, ap, ◌∙◌, append-nil}
-use Rattle.std.specs.List.{list_any, flat_map}
+use Rattle.std.proofs.Common.{◌≡◌, ℕ, Bool, true, false, ◌||◌, Bor, List, [], ◌∷◌, ◌++◌, cond, if◌then◌else◌, map, filter, refl, sym, ap, ◌∙◌}
+use Rattle.std.specs.List.{list_any}
 use Rattle.std.specs.BTreeMap.{BTreeMap}
 use Rattle.std.specs.Global.{Vec}
 use Rattle.std.specs.Str.{bytes_eq}
 use Rattle.std.proofs.lemmas.List.{map-append}
 use Rattle.std.proofs.lemmas.List.Elements.{filter-append}
-use Rattle.std.proofs.lemmas.List.Folds.{list_any-append, flat_map-map}
-use Rattle.std.proofs.lemmas.Grind.{take_at_read, flat_map-append}
+use Rattle.std.proofs.lemmas.List.Folds.{list_any-append}
 use Rattle.ident_index.specs.declared.hit.Hit.{Hit}
-use Rattle.ident_index.specs.declared.hit.HitFile.{HitFile}
-use Rattle.ident_index.specs.Postings.{NamedHit, hits_named, named_of, named_of_all, source_and_hits}
+use Rattle.ident_index.specs.Postings.{NamedHit, hits_named}
 use Rattle.ident_index.specs.Tables.{HasGroups, has_group, hits_in}
 
 pub hits_named-append : (q : List ℕ) (xs ys : List NamedHit) → hits_named q (xs ++ ys) ≡ hits_named q xs ++ hits_named q ys

@@ -1,5 +1,5 @@
 -- How a table is laid out from gathered hits.
-use Rattle.std.proofs.Common.{◌≡◌, ◌↔◌, ◌<◌, ◌||◌, ℕ, Bool, Bor, List, [], ◌∷◌, Some, length, map, get_or, All, AllPairs, Contains, refl, sym, ap, ◌∙◌, subst, arith, true}
+use Rattle.std.proofs.Common.{◌≡◌, ◌<◌, ◌||◌, ℕ, Bor, List, [], ◌∷◌, length, map, get_or, AllPairs, Contains, refl, sym, ap, ◌∙◌, subst, arith, true}
 use Rattle.std.specs.BTreeMap.{BTreeMap, IsOrdered, is_at}
 use Rattle.std.specs.Cmp.{IsTotalOrder}
 use Rattle.std.specs.Global.{Vec}
@@ -22,7 +22,7 @@ use Rattle.std.proofs.lemmas.Map.Views.{All-found, Contains-from_any}
 use Rattle.std.proofs.lemmas.Slice.Eq.{bytes_eq-Decides}
 use Rattle.ident_index.specs.declared.hit.Hit.{Hit}
 use Rattle.ident_index.specs.Postings.{IsNameBelow, IsTableOf, NamedHit, Posting, hits_named}
-use Rattle.ident_index.specs.Tables.{HasGroups, has_group, hits_in, posting_of}
+use Rattle.ident_index.specs.Tables.{HasGroups, posting_of}
 use Rattle.ident_index.proofs.Finding.{Name}
 use Rattle.ident_index.proofs.Lists.{AllPairs-map}
 

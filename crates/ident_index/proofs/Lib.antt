@@ -11,3 +11,4 @@ mod Passing
 mod Readings
 mod Rising
 mod Texts
+mod Totals

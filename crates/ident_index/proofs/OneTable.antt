@@ -4,7 +4,7 @@ use Rattle.std.proofs.lemmas.List.{get_or-map, length-map}
 use Rattle.ident_index.specs.Postings.{IsNameBelow, IsTableOf, NamedHit, Posting, hits_named}
 use Rattle.ident_index.proofs.Finding.{contains-mapped, greater}
 
-contains_below : {X : Type 0} (y x : X) (ys : List X) → Contains (y ∷ ys) x → (x ≡ y) ⊎ Contains ys x
+pub contains_below : {X : Type 0} (y x : X) (ys : List X) → Contains (y ∷ ys) x → (x ≡ y) ⊎ Contains ys x
 contains_below y x ys (zero, within, is) = inl (sym is)
 contains_below y x ys (suc i, within, is) = inr (i, omega (arith, within), is)
 
@@ -15,7 +15,7 @@ first_below : (p q : Posting) (qs : List Posting) → AllPairs IsNameBelow (q �
 first_below p q qs rising there =
     subst (IsNameBelow q) there.2 (rising 0 (suc there.0) p (omega arith) (omega (arith, there.1)))
 
-rising_tail : (p : Posting) (ps : List Posting) → AllPairs IsNameBelow (p ∷ ps) → AllPairs IsNameBelow ps
+pub rising_tail : (p : Posting) (ps : List Posting) → AllPairs IsNameBelow (p ∷ ps) → AllPairs IsNameBelow ps
 rising_tail p ps rising = λ i j d l m. rising (suc i) (suc j) d (omega arith) (omega arith)
 
 same_first : (p q : Posting) (ps qs : List Posting) → AllPairs IsNameBelow (p ∷ ps) → AllPairs IsNameBelow (q ∷ qs)

@@ -1,7 +1,7 @@
 //! What holds of all hits and of every table of names.
 
-ghost use Rattle.std.specs.Prelude.{◌≡◌, ◌<◌, ℕ, List, All, AllPairs, map};
-ghost use Rattle.std.specs.List.{flat_map};
+ghost use Rattle.std.specs.Prelude.{◌≡◌, ◌<◌, ℕ, List, All, AllPairs, length, map};
+ghost use Rattle.std.specs.List.{flat_map, sum_by};
 ghost use Rattle.go_ast.specs.declared.declaration.File.{File};
 ghost use Rattle.go_ast.specs.declared.token.Comment.{Comment};
 ghost use Rattle.go_ast.specs.declared.token.Token.{Token};
@@ -54,4 +54,13 @@ pub fn hits_of_a_posting()
 pub fn one_table()
     ensures { (named : List NamedHit) (postings other : List Posting)
         → IsTableOf named postings → IsTableOf named other → postings ≡ other }
+{}
+
+/// A table has as many hits as the list that it is the table of, and a file as many as it has
+/// identifiers. The call does nothing.
+pub fn hits_are_counted()
+    ensures table { (named : List NamedHit) (postings : List Posting) → IsTableOf named postings
+        → sum_by (λ p. length p.hits) postings ≡ length named }
+    ensures file { (source : List ℕ) (tokens : List Token) (file : File) (number : ℕ)
+        → length (hits_of source tokens file number) ≡ length (identifiers tokens) }
 {}

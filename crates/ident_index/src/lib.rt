@@ -19,6 +19,8 @@ mod tests;
 
 pub use hit::{Hit, HitFile, HitKind};
 pub use hits::hits_of;
-pub use laws::{hits_of_a_name, hits_of_a_posting, hits_rise, names_of_hits, one_table};
+pub use laws::{
+    hits_are_counted, hits_of_a_name, hits_of_a_posting, hits_rise, names_of_hits, one_table,
+};
 pub use postings::Postings;
 pub use steps::Steps;

@@ -70,8 +70,7 @@ impl Postings {
             (λ postings. IsTableOf (named_of_all (map source_and_hits files.now)) postings) }
     {
         let groups = group_hits(alloc, files)?;
-        let postings = lay_out(alloc, groups)?;
-        Ok(postings)
+        lay_out(alloc, groups)
     }
 
     /// The hits of a name, in their order; none where no hit has it. Each name that the search

@@ -1,6 +1,5 @@
 use Rattle.std.proofs.Common.{◌≡◌, ℕ, List, [], get_or, ◌≤◌, ◌<◌, ◌-◌, ◌+◌, ◌*◌, ◌^◌, length, ◌/◌, arith, subst, sym, ◌∙◌}
 use Rattle.std.proofs.lemmas.List.{get_or_default}
-use Rattle.std.specs.declared.cmp.Ordering.TheVariants.{Less}
 use Rattle.ident_index.specs.Postings.{Posting}
 use Rattle.ident_index.proofs.Finding.{above_more, below_more, named_here, none_here}
 use Rattle.ident_index.proofs.Halves.{halved, counted}

@@ -1,4 +1,4 @@
-use Rattle.std.proofs.Common.{◌≤◌, ◌<◌, ◌-◌, ◌^◌, inl, inr, arith}
+use Rattle.std.proofs.Common.{◌≤◌, ◌-◌, ◌^◌, inl, inr, arith}
 use Rattle.std.proofs.lemmas.Bool.{cases_lt}
 use Rattle.std.proofs.Math.Pow.{pow_mono}
 use Rattle.ident_index.proofs.tests.find_in_four.Goals as goal
