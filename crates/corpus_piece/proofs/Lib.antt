@@ -1,0 +1,3 @@
+mod AcceptedFiles
+mod OneOutcome
+pub mod OutcomeLaws

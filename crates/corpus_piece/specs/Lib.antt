@@ -1,0 +1,4 @@
+pub mod Accepted
+pub mod Outcomes
+pub mod Pieces
+pub mod Refusals
