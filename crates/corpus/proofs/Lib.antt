@@ -1,0 +1,13 @@
+mod Assembling
+mod Beside
+mod FileFaults
+mod Halving
+mod Inputs
+mod Lists
+mod Numbers
+mod OneCorpus
+mod PackageCounts
+mod PackageNames
+mod Places
+mod ReadFiles
+mod TokenTexts

@@ -1,0 +1,4 @@
+pub mod Codes
+pub mod Corpora
+pub mod Snapshots
+pub mod Steps
