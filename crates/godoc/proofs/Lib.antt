@@ -1,7 +1,8 @@
 mod Addresses
-mod Folders
-mod Gathering
-mod HitLines
+mod FaultTexts
+mod FoundLines
 mod Joins
-mod Outcomes
+mod Kept
+mod Scanning
 mod Sessions
+mod Writing

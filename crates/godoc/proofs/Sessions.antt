@@ -1,9 +1,10 @@
 -- A session over a history of one edition.
-use Rattle.std.proofs.Common.{◌≡◌, ◌≢◌, ℕ, zero, suc, ◌-◌, ◌⊎◌, List, [], ◌∷◌, ◌++◌, length, take, replicate, Option, All, refl, sym, ap, ◌∙◌, subst, inl, inr, ⊎_elim}
+use Rattle.std.proofs.Common.{◌≡◌, ℕ, zero, suc, ◌-◌, List, [], ◌∷◌, ◌++◌, length, take, replicate, Option, All, refl, sym, ap, ◌∙◌, subst, inl, inr, ⊎_elim}
 use Rattle.std.specs.Prelude.{IsSome}
 use Rattle.std.specs.List.{concat}
 use Rattle.std.proofs.lemmas.Bool.{false≢true}
 use Rattle.std.proofs.lemmas.List.Elements.{All-head, All-tail, All-weaker}
+use Rattle.corpus.specs.Corpora.{Edition}
 use Rattle.http_wire.specs.declared.request.Request.{Request}
 use Rattle.http_wire.specs.Requests.{StreamEnd}
 use Rattle.publication.specs.View.{View, StartsWith, newcomer}
@@ -57,12 +58,12 @@ entries_are edition (entry ∷ entries) known =
     ap (λ n. n ∷ entries) first ∙ ap (λ ns. 1 ∷ ns) rest
 
 -- a session of a reader that saw so much of the history
-serves_by : (paths : List (List ℕ)) (left left_after held held_after : Option (List ℕ))
-    (old new : View (List (List ℕ))) (result : SessionEnd) (more : List (List (List ℕ)))
+serves_by : (edition : Edition) (left left_after held held_after : Option (List ℕ))
+    (old new : View Edition) (result : SessionEnd) (more : List Edition)
     → (s : Session reply_of left left_after held held_after old new result) → new.seen ++ more
-    ≡ paths ∷ [] → s.entries ≡ replicate (length s.entries) 1
-    → Serves paths left left_after held held_after result
-serves_by paths left left_after held held_after old new result more s whole ones = record {
+    ≡ edition ∷ [] → s.entries ≡ replicate (length s.entries) 1
+    → Serves edition left left_after held held_after result
+serves_by edition left left_after held held_after old new result more s whole ones = record {
   read = s.read;
   written = s.written;
   count = length s.entries;
@@ -71,39 +72,39 @@ serves_by paths left left_after held held_after old new result more s whole ones
   adds = s.adds;
   end_is = s.end_is;
   answers = λ requests end all.
-      subst (λ (entries : List ℕ). IsAnswered reply_of (paths ∷ []) requests end entries s.written
+      subst (λ (entries : List ℕ). IsAnswered reply_of (edition ∷ []) requests end entries s.written
       result) ones
-      (subst (λ (history : List (List (List ℕ))). IsAnswered reply_of history requests end s.entries
+      (subst (λ (history : List Edition). IsAnswered reply_of history requests end s.entries
       s.written result) whole
       (IsAnswered-grown reply_of new.seen more requests end s.entries s.written result s.known
       (s.answers requests end all)));
 }
 
 -- a session of a reader that has seen nothing beyond this one edition
-pub Serves-session : (paths : List (List ℕ)) (left left_after held held_after : Option (List ℕ))
-    (old new : View (List (List ℕ))) (result : SessionEnd)
+pub Serves-session : (edition : Edition) (left left_after held held_after : Option (List ℕ))
+    (old new : View Edition) (result : SessionEnd)
     → Session reply_of left left_after held held_after old new result → StartsWith
-    (paths ∷ []) new.seen
-    → Serves paths left left_after held held_after result
-Serves-session paths left left_after held held_after old new result s begins =
-    let known : All (λ entry. IsSome (edition_at (paths ∷ []) entry)) s.entries =
+    (edition ∷ []) new.seen
+    → Serves edition left left_after held held_after result
+Serves-session edition left left_after held held_after old new result s begins =
+    let known : All (λ entry. IsSome (edition_at (edition ∷ []) entry)) s.entries =
     All-weaker (λ entry. IsSome (edition_at new.seen entry))
-    (λ entry. IsSome (edition_at (paths ∷ []) entry))
-    (λ entry some. subst (λ (w : Option (List (List ℕ))). IsSome w)
-    (sym (ap (λ (w : List (List (List ℕ))). edition_at w entry) begins.1
+    (λ entry. IsSome (edition_at (edition ∷ []) entry))
+    (λ entry some. subst (λ (w : Option Edition). IsSome w)
+    (sym (ap (λ (w : List Edition). edition_at w entry) begins.1
     ∙ edition_at-grown new.seen begins.0 entry some)) some)
     s.entries s.known in
-    serves_by paths left left_after held held_after old new result begins.0 s (sym begins.1)
-    (entries_are paths s.entries known)
+    serves_by edition left left_after held held_after old new result begins.0 s (sym begins.1)
+    (entries_are edition s.entries known)
 
 -- a session that was not begun for want of memory
-pub Serves-unbegun : (paths : List (List ℕ)) (left held : Option (List ℕ))
-    → Serves paths left left held held ends.NoMemory
-Serves-unbegun paths left held =
-    let view : View (List (List ℕ)) = newcomer
+pub Serves-unbegun : (edition : Edition) (left held : Option (List ℕ))
+    → Serves edition left left held held ends.NoMemory
+Serves-unbegun edition left held =
+    let view : View Edition = newcomer
     (record {
       book = record { number = 0; log_name = 0; cells_name = 0 };
-      editions = paths ∷ [];
+      editions = edition ∷ [];
     }) in
-    Serves-session paths left left held held view view ends.NoMemory
-    (Session-unbegun reply_of left held view) (paths ∷ [], refl)
+    Serves-session edition left left held held view view ends.NoMemory
+    (Session-unbegun reply_of left held view) (edition ∷ [], refl)

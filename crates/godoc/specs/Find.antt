@@ -1,61 +1,31 @@
 -- Cited by public clauses: the text of `find`, a line for each identifier with a name. The
 -- project's own.
-use Rattle.std.specs.Prelude.{◌≡◌, ℕ, Bool, ◌&&◌, ◌⊎◌, List, [], ◌∷◌, ◌++◌, decimal, codes, if◌then◌else◌}
+use Rattle.std.specs.Prelude.{◌≡◌, ℕ, List, ◌++◌, All, decimal, codes}
 use Rattle.std.specs.List.{flat_map}
-use Rattle.std.specs.Str.{bytes_eq}
-use Rattle.go_ast.specs.declared.declaration.File.{File}
+use Rattle.corpus.specs.Corpora.{AreFilesOf, kept}
+use Rattle.corpus.specs.Snapshots.{SourceSet}
+use Rattle.corpus_piece.specs.Pieces.{IsJudged, JudgedFile}
 use Rattle.go_ast.specs.declared.token.Token.{Token}
-use Rattle.go_ast.specs.declared.token.Comment.{Comment}
-use Rattle.go_ast.specs.Files.{SpellsFile}
 use Rattle.go_ast.specs.Position.{line_of, column_of}
-use Rattle.go_ast.specs.Reading.{Reads}
-use Rattle.go_ast.specs.Tokens.{is_ident, text_of}
-use Rattle.tree_io.specs.declared.tree.Entry.{Entry}
-use Rattle.tree_io.specs.declared.tree.Entry.TheVariants.{Bytes}
-use Rattle.tree_io.specs.Sources.{Sources}
-
--- an identifier whose text is the name
-abbrev pub is_hit : List ℕ → List ℕ → Token → Bool
-is_hit name bytes token =
-    is_ident token.kind && bytes_eq (text_of bytes token) name
+use Rattle.ident_index.specs.Hits.{identifiers_named}
 
 -- PATH:LINE:COL and a newline
 unfoldable pub position_line : List ℕ → ℕ → ℕ → List ℕ
 position_line path line column =
     path ++ codes ":" ++ decimal line ++ codes ":" ++ decimal column ++ codes "\n"
 
--- the line for a token that is a hit, where it begins; none for any other
-unfoldable pub line_for : List ℕ → List ℕ → List ℕ → Token → List ℕ
-line_for name path bytes token = if is_hit name bytes token
-    then position_line path (line_of bytes token.span.start) (column_of bytes token.span.start)
-    else []
+-- the line for an offset in a file with this path and these bytes
+abbrev pub place_line : List ℕ → List ℕ → ℕ → List ℕ
+place_line path bytes offset = position_line path (line_of bytes offset) (column_of bytes offset)
 
--- the lines of a source with these tokens
+-- the lines of a file with these tokens: one for each identifier with the name, where it begins
 abbrev pub hit_lines : List ℕ → List ℕ → List ℕ → List Token → List ℕ
-hit_lines name path bytes tokens = flat_map (line_for name path bytes) tokens
+hit_lines name path bytes tokens =
+    flat_map (λ token. place_line path bytes token.span.start) (identifiers_named name bytes tokens)
 
--- the bytes are read as these tokens, which spell a file
-pub record IsGoFile (bytes : List ℕ) (tokens : List Token) : Type 0 where
-  pub comments : List Comment
-  pub file : File
-  pub read : Reads bytes tokens comments
-  pub spelled : SpellsFile bytes tokens file
-
--- these are the lines of a file with these bytes: those of its tokens, and none where the bytes are
--- no Go file
-abbrev pub FindsIn : List ℕ → List ℕ → List ℕ → List ℕ → Type 0
-FindsIn name path bytes lines =
-    ((tokens : List Token) × IsGoFile bytes tokens × (lines ≡ hit_lines name path bytes tokens))
-    ⊎ (((tokens : List Token) → IsGoFile bytes tokens → ⊥) × (lines ≡ []))
-
--- the lines of one source: none where its bytes aren't there
-abbrev pub FindsAt : List ℕ → List ℕ → Entry → List ℕ → Type 0
-FindsAt name path (Bytes bytes) lines = FindsIn name path bytes lines
-FindsAt name path entry lines = lines ≡ []
-
--- the text of `find`: the lines of one source after another
-abbrev pub IsFindText : List ℕ → Sources → List ℕ → Type 0
-IsFindText name [] text = text ≡ []
-IsFindText name (source ∷ sources) text =
-    (lines : List ℕ) × (more : List ℕ) × FindsAt name source.0 source.1 lines
-    × IsFindText name sources more × (text ≡ lines ++ more)
+-- the text of `find` over a set of sources: the lines of each of its files that is kept, in their
+-- order
+abbrev pub IsFindText : List ℕ → SourceSet → List ℕ → Type 0
+IsFindText name sources text = (files : List JudgedFile)
+    × AreFilesOf sources files × All IsJudged files
+    × (text ≡ flat_map (λ a. hit_lines name a.path a.bytes a.parsed.scanned.tokens) (kept files))

@@ -1,6 +1,9 @@
+pub mod Defaults
+pub mod Faults
 pub mod Find
+pub mod HitLines
+pub mod Limits
 pub mod Outcome
-pub mod Packages
 pub mod Pages
 pub mod Replies
 pub mod Serving

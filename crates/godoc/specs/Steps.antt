@@ -1,47 +1,44 @@
--- Cited by private contracts and by proofs: what a command did over some of the paths of its scan.
--- The project's own.
-use Rattle.std.specs.Prelude.{◌≡◌, ℕ, List, ◌++◌, Option}
-use Rattle.link_io.specs.Streams.{Adds}
-use Rattle.tree_io.specs.Entries.{IsReadSoFar}
-use Rattle.tree_io.specs.Sources.{Contents, Sources}
-use Rattle.godoc.specs.declared.status.Stop.{Stop}
-use Rattle.godoc.specs.declared.status.Stop.TheVariants as stops
+-- Cited by private contracts and by proofs: why a scan gave no corpus. The project's own.
+use Rattle.std.specs.Prelude.{ℕ, List, Option, ⊤}
+use Rattle.plain_data.specs.declared.errors.IoFail.{IoFail}
+use Rattle.plain_data.specs.declared.errors.IoFail.TheVariants as causes
+use Rattle.corpus.specs.declared.snapshot.TooLarge.{TooLarge}
+use Rattle.corpus.specs.declared.snapshot.TooLarge.TheVariants as limits
+use Rattle.tree_io.specs.Sources.{Contents}
+use Rattle.godoc.specs.declared.scan.ScanFault.{ScanFault}
+use Rattle.godoc.specs.declared.scan.ScanFault.TheVariants as faults
 use Rattle.godoc.specs.declared.status.Status.{Status}
 use Rattle.godoc.specs.declared.status.Status.TheVariants as statuses
-use Rattle.godoc.specs.Find.{IsFindText}
-use Rattle.godoc.specs.Packages.{ArePackages}
+use Rattle.godoc.specs.Limits.{HasTooManyBytes, HasTooManyFiles, PassBytes}
 
--- these paths, read while the count of read faults went from before to now, have this text
-pub record FindsSome (name : List ℕ) (paths : List (List ℕ)) (scans : Option (List Contents))
-    (before now : ℕ) (text : List ℕ) : Type 0 where
-  pub sources : Sources
-  pub read : IsReadSoFar scans paths sources before now
-  pub all : IsFindText name sources text
+-- a listing that failed so
+abbrev pub fault_of : IoFail → ScanFault
+fault_of causes.Failed = faults.TreeFault
+fault_of causes.NoMemory = faults.NoMemory
 
--- the output gained exactly the text of these paths
-pub record WritesSome (name : List ℕ) (paths : List (List ℕ)) (scans : Option (List Contents))
-    (before now : ℕ) (held gained : Option (List ℕ)) : Type 0 where
-  pub text : List ℕ
-  pub found : FindsSome name paths scans before now text
-  pub written : Adds held text gained
+-- sources that are no snapshot, for this
+abbrev pub fault_by : TooLarge → ScanFault
+fault_by (limits.TooManyFiles files) = faults.TooManyFiles files
+fault_by (limits.TooManyBytes bytes) = faults.TooManyBytes bytes
+fault_by limits.NoMemory = faults.NoMemory
 
--- the output gained a first part of it
-pub record WritesPart (name : List ℕ) (paths : List (List ℕ)) (scans : Option (List Contents))
-    (before now : ℕ) (held gained : Option (List ℕ)) : Type 0 where
-  pub front : List ℕ
-  pub rest : List ℕ
-  pub found : FindsSome name paths scans before now (front ++ rest)
-  pub written : Adds held front gained
+-- the status of a command whose scan gave no corpus
+abbrev pub status_of : ScanFault → Status
+status_of faults.TreeFault = statuses.TreeFault
+status_of (faults.TooManyFiles files) = statuses.Limit files 0
+status_of (faults.TooManyBytes bytes) = statuses.Limit 0 bytes
+status_of faults.NoMemory = statuses.NoMemory
 
--- what reading these paths gave: sources, of which these are the package paths
-pub record IsGathered (scans : Option (List Contents)) (paths : List (List ℕ)) (before now : ℕ)
-    (found : List (List ℕ)) : Type 0 where
-  pub sources : Sources
-  pub read : IsReadSoFar scans paths sources before now
-  pub packages : ArePackages sources found
+-- the scan under way gives no corpus, for this
+abbrev pub IsScanFault : Option (List Contents) → ℕ → ℕ → ScanFault → Type 0
+IsScanFault scans before now faults.TreeFault = ⊤
+IsScanFault scans before now (faults.TooManyFiles files) = HasTooManyFiles scans before now files
+IsScanFault scans before now (faults.TooManyBytes bytes) = HasTooManyBytes scans before now bytes
+IsScanFault scans before now faults.NoMemory = ⊤
 
--- the status of a command that stopped
-abbrev pub status_of : Stop → Status
-status_of stops.TreeFault = statuses.TreeFault
-status_of stops.WriteFault = statuses.WriteFault
-status_of stops.NoMemory = statuses.NoMemory
+-- the files at these paths weren't all read, for this
+abbrev pub IsReadFault : Option (List Contents) → List (List ℕ) → ℕ → ℕ → ScanFault → Type 0
+IsReadFault scans paths before now (faults.TooManyBytes bytes) =
+    PassBytes scans paths before now bytes
+IsReadFault scans paths before now faults.NoMemory = ⊤
+IsReadFault scans paths before now _ = ⊥

@@ -1,14 +1,18 @@
 //! The command `answer`: the requests of one connection, answered by one edition.
 
-ghost use Rattle.std.specs.Prelude.{◌≡◌, ◌≢◌, ◌⊎◌, true, List, ℕ, [], ◌∷◌, All, vec_len};
+ghost use Rattle.std.specs.Prelude.{◌≡◌, ◌≢◌, ◌⊎◌, true, ℕ, [], ◌∷◌, All, vec_len};
+ghost use Rattle.corpus.specs.Corpora.{Edition};
 ghost use Rattle.plain_data.specs.Causes.{IsCaused};
-ghost use Rattle.godoc.specs.Outcome.{OpensAtMostOne};
+ghost use Rattle.tree_io.specs.Scans.{OpensScan};
+ghost use Rattle.godoc.specs.Defaults.{defaults};
+ghost use Rattle.godoc.specs.Limits.{IsTooLarge};
+ghost use Rattle.godoc.specs.Outcome.{IsOfTree, OpensAtMostOne};
 ghost use Rattle.godoc.specs.Serving.{Answers, IsOfAnswer, Serves};
 
-use crate::edition::{Edition, scan_tree};
+use crate::scan::scan_defaults;
 use crate::site::Site;
 use crate::status::Status;
-use go_ast::IoFail;
+use corpus::Corpus;
 use link_io::{Both, Link, Sink, Source};
 use publication::{EditionReader, Told, open_editions};
 use session::{SessionEnd, serve_link};
@@ -17,7 +21,7 @@ use std::sync::{Arc, Wait};
 use tree_io::Tree;
 
 /// Serves one connection by a history of one edition, and tells why the session ended.
-fn serve<R: Wait, L: Link>(rt: &R, alloc: Global, edition: Edition, link: &mut L) -> SessionEnd
+fn serve<R: Wait, L: Link>(rt: &R, alloc: Global, edition: Corpus, link: &mut L) -> SessionEnd
     ensures session { Serves edition (L.remaining link.old) (L.remaining link.new)
         (L.held link.old) (L.held link.new) result }
     ensures read_faults { IsCaused (L.read_faults link.old) (L.read_faults link.new)
@@ -46,13 +50,13 @@ fn serve_told<L: Link>(
     alloc: Global,
     link: &mut L,
     site: &Site,
-    mut readers: Vec<EditionReader<Edition>>,
-    told: Told<Edition>,
+    mut readers: Vec<EditionReader<Corpus>>,
+    told: Told<Corpus>,
 ) -> SessionEnd
     requires one { vec_len readers ≡ 1 }
     requires opening { All (λ reader. reader.opening ≡ told.opening) readers.items }
     requires closed { told.closed ≡ true }
-    ensures session { (edition : List (List ℕ)) → told.editions ≡ edition ∷ []
+    ensures session { (edition : Edition) → told.editions ≡ edition ∷ []
         → Serves edition (L.remaining link.old) (L.remaining link.new)
         (L.held link.old) (L.held link.new) result }
     ensures read_faults { IsCaused (L.read_faults link.old) (L.read_faults link.new)
@@ -70,7 +74,7 @@ fn serve_told<L: Link>(
 fn serve_between<R: Wait, I: Source, O: Sink>(
     rt: &R,
     alloc: Global,
-    edition: Edition,
+    edition: Corpus,
     input: &mut I,
     out: &mut O,
 ) -> SessionEnd
@@ -93,28 +97,32 @@ pub(crate) fn answer<R: Wait, T: Tree, I: Source, O: Sink>(
     out: &mut O,
 ) -> Status
     ensures statuses { IsOfAnswer result }
-    ensures answered { result ≢ Status.TreeFault → result ≢ Status.NoMemory
-        → Answers (T.scans tree.old) (T.scans tree.new)
+    ensures answered { (IsOfTree result → ⊥) → result ≢ Status.NoMemory
+        → Answers defaults (T.scans tree.old) (T.scans tree.new)
         (T.read_faults tree.old) (T.read_faults tree.new)
         (I.remaining input.old) (I.remaining input.new) (O.held out.old) (O.held out.new) result }
     ensures starved { result ≡ Status.NoMemory
         → ((input.new ≡ input.old) × (out.new ≡ out.old))
-        ⊎ Answers (T.scans tree.old) (T.scans tree.new)
+        ⊎ Answers defaults (T.scans tree.old) (T.scans tree.new)
         (T.read_faults tree.old) (T.read_faults tree.new)
         (I.remaining input.old) (I.remaining input.new) (O.held out.old) (O.held out.new) result }
-    ensures unread { result ≡ Status.TreeFault → input.new ≡ input.old }
-    ensures unwritten { result ≡ Status.TreeFault → out.new ≡ out.old }
+    ensures limit { (files bytes : ℕ) → result ≡ Status.Limit files bytes
+        → IsTooLarge (T.scans tree.new)
+        (T.read_faults tree.old) (T.read_faults tree.new) files bytes }
+    ensures unread { IsOfTree result → input.new ≡ input.old }
+    ensures unwritten { IsOfTree result → out.new ≡ out.old }
     ensures list_faults { IsCaused (T.list_faults tree.old) (T.list_faults tree.new)
         (result ≡ Status.TreeFault) }
     ensures read_faults { IsCaused (I.read_faults input.old) (I.read_faults input.new)
         (result ≡ Status.ReadFault) }
     ensures write_faults { IsCaused (O.write_faults out.old) (O.write_faults out.new)
         (result ≡ Status.WriteFault) }
+    ensures one_scan { result ≢ Status.TreeFault → result ≢ Status.NoMemory
+        → OpensScan (T.scans tree.old) (T.scans tree.new) }
     ensures at_most_one_scan { OpensAtMostOne (T.scans tree.old) (T.scans tree.new) }
 {
-    match scan_tree(alloc, tree) {
-        Ok(edition) => Status::from(serve_between(rt, alloc, edition, input, out)),
-        Err(IoFail::Failed) => Status::TreeFault,
-        Err(IoFail::NoMemory) => Status::NoMemory,
+    match scan_defaults(alloc, tree) {
+        Ok(corpus) => Status::from(serve_between(rt, alloc, corpus, input, out)),
+        Err(fault) => Status::from(fault),
     }
 }

@@ -1,106 +1,116 @@
 //! The command `find`: the places where a name stands as an identifier.
 
-ghost use Rattle.std.specs.Prelude.{◌≡◌, ◌≢◌, ◌≤◌, ◌⊎◌, ◌∷◌, [], All, Err, IsErrOf, IsSome, OnErr, OnOk};
-ghost use Rattle.std.specs.Option.{ForSome};
-ghost use Rattle.plain_data.specs.Causes.{IsCaused};
-ghost use Rattle.tree_io.specs.Scans.{IsKnown, OpensScan, under_way};
-ghost use Rattle.tree_io.specs.Sources.{bytes_at};
-ghost use Rattle.godoc.specs.Outcome.{OpensAtMostOne, WritesFound, WritesFront};
-ghost use Rattle.godoc.specs.Steps.{WritesPart, WritesSome};
+ghost use Rattle.std.specs.Prelude.{◌≡◌, ◌≢◌, ◌⊎◌, ℕ, All, OnErr, OnOk};
+ghost use Rattle.std.specs.List.{flat_map};
+ghost use Rattle.link_io.specs.Streams.{Adds};
+ghost use Rattle.plain_data.specs.Causes.{HasIoCause, IsCaused};
+ghost use Rattle.tree_io.specs.Scans.{OpensScan};
+ghost use Rattle.godoc.specs.Defaults.{defaults};
+ghost use Rattle.godoc.specs.HitLines.{AddsFound, AddsFoundFront, AddsFront, IsHitIn, hit_line};
+ghost use Rattle.godoc.specs.Limits.{IsTooLarge};
+ghost use Rattle.godoc.specs.Outcome.{IsOfFind, IsOfTree, OpensAtMostOne, WritesFound, WritesFront};
 
-use crate::hit_lines::entry_lines;
-use crate::status::Stop;
+use crate::hit_lines::{hits_of, lines_of};
+use crate::scan::scan_defaults;
+use crate::status::Status;
+use corpus::{Corpus, own_tables};
 use go_ast::{IoFail, Txt};
+use ident_index::Hit;
 use link_io::{Sink, write_whole};
 use std::alloc::Global;
-use tree_io::{Tree, read_entry};
+use tree_io::Tree;
 
-/// Reads and scans one file, and writes its lines.
-fn find_in<T: Tree, O: Sink>(
+/// The most hits whose lines are written at once.
+const PART_HITS: usize = 1_024;
+
+/// Writes the lines of hits.
+fn write_part<O: Sink>(
     alloc: Global,
-    name: &str,
-    path: &str,
-    tree: &mut T,
+    corpus: &Corpus,
+    hits: &[Hit],
     out: &mut O,
-) -> Result<(), Stop>
-    requires { IsKnown (T.scans tree.old) path.now }
-    ensures found { OnOk result (WritesSome name.now (path.now ∷ []) (T.scans tree.old)
-        (T.read_faults tree.old) (T.read_faults tree.new) (O.held out.old) (O.held out.new)) }
-    ensures part { IsErrOf result Stop.WriteFault
-        → WritesPart name.now (path.now ∷ []) (T.scans tree.old)
-        (T.read_faults tree.old) (T.read_faults tree.new) (O.held out.old) (O.held out.new) }
-    ensures no_memory { IsErrOf result Stop.NoMemory → O.held out.new ≡ O.held out.old }
-    ensures no_tree_fault { result ≢ Err Stop.TreeFault }
-    ensures later { T.read_faults tree.old ≤ T.read_faults tree.new }
-    ensures write_faults { IsCaused (O.write_faults out.old) (O.write_faults out.new)
-        (result ≡ Err Stop.WriteFault) }
-    ensures same_scans { T.scans tree.new ≡ T.scans tree.old }
-    ensures same_list_faults { T.list_faults tree.new ≡ T.list_faults tree.old }
+) -> Result<(), IoFail>
+    requires { All (IsHitIn corpus.now) hits.now }
+    ensures ok { OnOk result (Adds (O.held out.old)
+        (flat_map (hit_line corpus.now.tables.files) hits.now) (O.held out.new)) }
+    ensures front { OnErr result (AddsFront (O.held out.old)
+        (flat_map (hit_line corpus.now.tables.files) hits.now) (O.held out.new)) }
+    ensures cause { HasIoCause (O.write_faults out.old) (O.write_faults out.new) result }
 {
-    let entry = read_entry(alloc, tree, path)?;
-    let lines = entry_lines(alloc, name, path, &entry)?;
+    let lines = lines_of(alloc, corpus, hits)?;
     match write_whole(out, lines.as_slice()) {
         Ok(()) => Ok(()),
-        Err(_) => Err(Stop::WriteFault),
+        Err(_) => Err(IoFail::Failed),
     }
 }
 
-/// Reads and scans files in their order, and writes their lines.
-fn find_all<T: Tree, O: Sink>(
+/// Writes the lines of hits, those of some hits at a time.
+fn write_lines<O: Sink>(
     alloc: Global,
-    name: &str,
-    paths: &[Txt],
-    tree: &mut T,
+    corpus: &Corpus,
+    hits: &[Hit],
     out: &mut O,
-) -> Result<(), Stop>
-    requires { ForSome (T.scans tree.old)
-        (λ told. All (λ path. IsSome (bytes_at (under_way told) path)) paths.now) }
-    ensures found { OnOk result (WritesSome name.now paths.now (T.scans tree.old)
-        (T.read_faults tree.old) (T.read_faults tree.new) (O.held out.old) (O.held out.new)) }
-    ensures part { OnErr result (WritesPart name.now paths.now (T.scans tree.old)
-        (T.read_faults tree.old) (T.read_faults tree.new) (O.held out.old) (O.held out.new)) }
-    ensures no_tree_fault { result ≢ Err Stop.TreeFault }
-    ensures later { T.read_faults tree.old ≤ T.read_faults tree.new }
-    ensures write_faults { IsCaused (O.write_faults out.old) (O.write_faults out.new)
-        (result ≡ Err Stop.WriteFault) }
-    ensures same_scans { T.scans tree.new ≡ T.scans tree.old }
-    ensures same_list_faults { T.list_faults tree.new ≡ T.list_faults tree.old }
+) -> Result<(), IoFail>
+    requires { All (IsHitIn corpus.now) hits.now }
+    ensures ok { OnOk result (Adds (O.held out.old)
+        (flat_map (hit_line corpus.now.tables.files) hits.now) (O.held out.new)) }
+    ensures front { OnErr result (AddsFront (O.held out.old)
+        (flat_map (hit_line corpus.now.tables.files) hits.now) (O.held out.new)) }
+    ensures cause { HasIoCause (O.write_faults out.old) (O.write_faults out.new) result }
 {
-    for path in paths {
-        find_in(alloc, name, path.as_str(), tree, out)?;
+    for part in hits.chunks(PART_HITS) {
+        write_part(alloc, corpus, part, out)?;
     }
     Ok(())
 }
 
-/// Writes a line for each place where a name stands as an identifier in a tree, over one scan.
-pub(crate) fn find<T: Tree, O: Sink>(
+/// Writes a line for each place where a name stands as an identifier in the files of a corpus.
+fn write_found<O: Sink>(
     alloc: Global,
+    corpus: &Corpus,
     name: &str,
-    tree: &mut T,
     out: &mut O,
-) -> Result<(), Stop>
-    ensures found { OnOk result (WritesFound name.now (T.scans tree.new)
-        (T.read_faults tree.old) (T.read_faults tree.new) (O.held out.old) (O.held out.new)) }
-    ensures front { result ≡ Err Stop.WriteFault → WritesFront name.now (T.scans tree.new)
+) -> Result<(), IoFail>
+    ensures found { OnOk result
+        (AddsFound name.now corpus.now.sources (O.held out.old) (O.held out.new)) }
+    ensures front { OnErr result
+        (AddsFoundFront name.now corpus.now.sources (O.held out.old) (O.held out.new)) }
+    ensures cause { HasIoCause (O.write_faults out.old) (O.write_faults out.new) result }
+{
+    own_tables(corpus);
+    let name = Txt::from_str(alloc, name)?;
+    write_lines(alloc, corpus, hits_of(corpus, &name), out)
+}
+
+/// Writes a line for each place where a name stands as an identifier in a tree, over one scan.
+pub(crate) fn find<T: Tree, O: Sink>(alloc: Global, name: &str, tree: &mut T, out: &mut O) -> Status
+    ensures statuses { IsOfFind result }
+    ensures found { result ≡ Status.Done → WritesFound defaults name.now (T.scans tree.new)
         (T.read_faults tree.old) (T.read_faults tree.new) (O.held out.old) (O.held out.new) }
-    ensures starved { result ≡ Err Stop.NoMemory
-        → (out.new ≡ out.old) ⊎ WritesFront name.now (T.scans tree.new)
+    ensures front { result ≡ Status.WriteFault → WritesFront defaults name.now (T.scans tree.new)
         (T.read_faults tree.old) (T.read_faults tree.new) (O.held out.old) (O.held out.new) }
-    ensures unwritten { result ≡ Err Stop.TreeFault → out.new ≡ out.old }
+    ensures starved { result ≡ Status.NoMemory
+        → (out.new ≡ out.old) ⊎ WritesFront defaults name.now (T.scans tree.new)
+        (T.read_faults tree.old) (T.read_faults tree.new) (O.held out.old) (O.held out.new) }
+    ensures limit { (files bytes : ℕ) → result ≡ Status.Limit files bytes
+        → IsTooLarge (T.scans tree.new)
+        (T.read_faults tree.old) (T.read_faults tree.new) files bytes }
+    ensures unwritten { IsOfTree result → out.new ≡ out.old }
     ensures list_faults { IsCaused (T.list_faults tree.old) (T.list_faults tree.new)
-        (result ≡ Err Stop.TreeFault) }
+        (result ≡ Status.TreeFault) }
     ensures write_faults { IsCaused (O.write_faults out.old) (O.write_faults out.new)
-        (result ≡ Err Stop.WriteFault) }
-    ensures one_scan { result ≢ Err Stop.TreeFault
+        (result ≡ Status.WriteFault) }
+    ensures one_scan { result ≢ Status.TreeFault → result ≢ Status.NoMemory
         → OpensScan (T.scans tree.old) (T.scans tree.new) }
     ensures at_most_one_scan { OpensAtMostOne (T.scans tree.old) (T.scans tree.new) }
 {
-    if tree.open_scan().is_err() {
-        return Err(Stop::TreeFault);
-    }
-    match tree.list(alloc) {
-        Ok(paths) => find_all(alloc, name, paths.as_slice(), tree, out),
-        Err(IoFail::Failed) => Err(Stop::TreeFault),
-        Err(IoFail::NoMemory) => Err(Stop::NoMemory),
+    let corpus = match scan_defaults(alloc, tree) {
+        Ok(corpus) => corpus,
+        Err(fault) => return Status::from(fault),
+    };
+    match write_found(alloc, &corpus, name, out) {
+        Ok(()) => Status::Done,
+        Err(IoFail::Failed) => Status::WriteFault,
+        Err(IoFail::NoMemory) => Status::NoMemory,
     }
 }

@@ -1,30 +1,40 @@
-//! The lines of one source in which a name stands.
+//! The lines of the hits of a name.
 
-ghost use Rattle.std.specs.Prelude.{◌≡◌, ◌++◌, ◌≤◌, All, IfOk, List, MatchOption, OnOk, length, slice_range};
-ghost use Rattle.std.specs.Option.{ForSome};
-ghost use Rattle.std.specs.Str.{bytes_eq};
-ghost use Rattle.go_ast.specs.declared.token.Token.{Token};
-ghost use Rattle.go_ast.specs.Position.{line_starts};
-ghost use Rattle.go_ast.specs.Tokens.{IsWithin};
-ghost use Rattle.tree_io.specs.Entries.{IsSmall};
-ghost use Rattle.tree_io.specs.declared.tree.TheConstants.{MAX_FILE_BYTES};
-ghost use Rattle.godoc.specs.Find.{FindsAt, FindsIn, IsGoFile, hit_lines, is_hit, line_for, position_line};
+ghost use Rattle.std.specs.Prelude.{◌≡◌, ◌++◌, ◌<◌, All, IfOk, OnOk};
+ghost use Rattle.std.specs.List.{flat_map};
+ghost use Rattle.corpus.specs.Corpora.{hits_in};
+ghost use Rattle.ident_index.specs.Postings.{hits_at, hits_named};
+ghost use Rattle.godoc.specs.Find.{position_line};
+ghost use Rattle.godoc.specs.HitLines.{IsHitIn, hit_line};
 
-use go_ast::{Mem, NoMemory, Refused, Scanned, Token, TokenKind};
-use go_parser::parse_file;
-use go_scanner::{Position, position_of, scan};
+use corpus::{Corpus, own_tables};
+use corpus_piece::Outcome;
+use go_ast::{Mem, Txt};
+use go_scanner::{Position, position_of};
+use ident_index::{Hit, Postings, Steps, hits_of_a_posting};
 use std::alloc::Global;
+use std::marker::Brand;
+use std::sync::ledger::{Blank, Ledger};
 use text_out::Text;
-use tree_io::Entry;
 
-/// Whether a token is an identifier with this name.
-fn is_hit(name: &str, source: &[u8], token: &Token) -> bool
-    requires { IsWithin (length source.now) token.now }
-    ensures { result ≡ is_hit name.now source.now token.now }
+/// The hits of a name, whose steps are counted by a ledger of this blank.
+fn look_up<'p, L: Ledger>(postings: &'p Postings, name: &Txt, blank: Blank) -> &'p [Hit]
+    requires name { blank.name ≡ L.name }
+    requires parts { blank.parts ≡ L.parts }
+    requires some { 0 < blank.parts }
+    ensures { result.now ≡ hits_at postings.now name.now }
 {
-    let start = token.span.start as usize;
-    let end = token.span.end as usize;
-    token.kind == TokenKind::Ident && &source[start..end] == name.as_bytes()
+    let mut steps = Steps::<L>::new(blank);
+    postings.find(name.as_str(), &mut steps)
+}
+
+/// The hits of a name in the files of a corpus, by rising path and offset.
+pub(crate) fn hits_of<'c>(corpus: &'c Corpus, name: &Txt) -> &'c [Hit]
+    ensures { result.now ≡ hits_named name.now (hits_in corpus.now.tables.files) }
+{
+    own_tables(corpus);
+    hits_of_a_posting();
+    look_up::<Brand>(corpus.postings(), name, Blank::new(1))
 }
 
 /// Appends a path, a line, a column and a newline.
@@ -41,95 +51,30 @@ fn push_line(text: &mut Text, path: &str, position: Position) -> Mem<()>
     text.push("\n")
 }
 
-/// Appends the line of a token that is a hit.
-#[tactic(auto, unfolding(crate::specs::Find::line_for))]
-fn push_hit(
-    text: &mut Text,
-    name: &str,
-    path: &str,
-    source: &[u8],
-    starts: &[u32],
-    token: &Token,
-) -> Mem<()>
-    requires starts { starts.now ≡ line_starts source.now }
-    requires within { IsWithin (length source.now) token.now }
-    ensures { OnOk result (text.new ≡ text.old ++ line_for name.now path.now source.now token.now) }
+/// Appends the line of a hit.
+fn push_hit(text: &mut Text, corpus: &Corpus, hit: &Hit) -> Mem<()>
+    requires { IsHitIn corpus.now hit.now }
+    ensures { OnOk result (text.new ≡ text.old ++ hit_line corpus.now.tables.files hit.now) }
 {
-    if !is_hit(name, source, token) {
-        return Ok(());
+    let piece = corpus.piece(hit.file);
+    match piece.outcome() {
+        Outcome::Accepted(parsed) => {
+            let position = position_of(parsed.scanned.lines.as_slice(), hit.offset);
+            push_line(text, piece.path(), position)
+        }
+        Outcome::Ignored(_) | Outcome::Faulty(_) => Ok(()),
     }
-    push_line(text, path, position_of(starts, token.span.start))
 }
 
-/// The lines of the tokens that are hits.
-fn token_lines(
-    alloc: Global,
-    name: &str,
-    path: &str,
-    source: &[u8],
-    starts: &[u32],
-    tokens: &[Token],
-) -> Mem<Vec<u8>>
-    requires starts { starts.now ≡ line_starts source.now }
-    requires within { All (IsWithin (length source.now)) tokens.now }
+/// The lines of hits, in their order.
+pub(crate) fn lines_of(alloc: Global, corpus: &Corpus, hits: &[Hit]) -> Mem<Vec<u8>>
+    requires { All (IsHitIn corpus.now) hits.now }
     ensures { IfOk result
-        (λ lines. lines.items ≡ hit_lines name.now path.now source.now tokens.now) }
+        (λ lines. lines.items ≡ flat_map (hit_line corpus.now.tables.files) hits.now) }
 {
     let mut text = Text::new(alloc);
-    for token in tokens {
-        push_hit(&mut text, name, path, source, starts, token)?;
+    for hit in hits {
+        push_hit(&mut text, corpus, hit)?;
     }
     Ok(text.into_bytes())
-}
-
-/// The tokens of a source, where it is a Go file.
-fn scan_file(alloc: Global, source: &[u8]) -> Mem<Option<Scanned>>
-    requires { length source.now ≤ MAX_FILE_BYTES }
-    ensures file { IfOk result (λ found. MatchOption found
-        ((tokens : List Token) → IsGoFile source.now tokens → ⊥)
-        (λ scanned. IsGoFile source.now scanned.tokens)) }
-    ensures lines { IfOk result (λ found. ForSome found
-        (λ scanned. scanned.lines ≡ line_starts source.now)) }
-    ensures within { IfOk result (λ found. ForSome found
-        (λ scanned. All (IsWithin (length source.now)) scanned.tokens)) }
-{
-    let scanned = match scan(alloc, source) {
-        Ok(scanned) => scanned,
-        Err(Refused::Fault(_)) => return Ok(None),
-        Err(Refused::NoMemory) => return Err(NoMemory),
-    };
-    match parse_file(alloc, source, &scanned) {
-        Ok(_) => Ok(Some(scanned)),
-        Err(Refused::Fault(_)) => Ok(None),
-        Err(Refused::NoMemory) => Err(NoMemory),
-    }
-}
-
-/// The lines of a source: none where it is no Go file.
-fn source_lines(alloc: Global, name: &str, path: &str, source: &[u8]) -> Mem<Vec<u8>>
-    requires { length source.now ≤ MAX_FILE_BYTES }
-    ensures { IfOk result (λ lines. FindsIn name.now path.now source.now lines.items) }
-{
-    match scan_file(alloc, source)? {
-        Some(scanned) => token_lines(
-            alloc,
-            name,
-            path,
-            source,
-            scanned.lines.as_slice(),
-            scanned.tokens.as_slice(),
-        ),
-        None => Ok(Vec::new(alloc)),
-    }
-}
-
-/// The lines of a file: none where it is too large or could not be read.
-pub(crate) fn entry_lines(alloc: Global, name: &str, path: &str, entry: &Entry) -> Mem<Vec<u8>>
-    requires { IsSmall entry.now }
-    ensures { IfOk result (λ lines. FindsAt name.now path.now entry.now lines.items) }
-{
-    match entry {
-        Entry::Bytes(source) => source_lines(alloc, name, path, source.as_slice()),
-        Entry::Large | Entry::Unread => Ok(Vec::new(alloc)),
-    }
 }

@@ -2,7 +2,7 @@
 //!
 //! `godoc ROOT find NAME` prints where a name stands as an identifier in the Go files under a
 //! folder. `godoc ROOT answer` answers the HTTP requests of standard input by pages on the packages
-//! under a folder.
+//! and the faults under a folder.
 #![tactic(auto)]
 
 ghost use Rattle.std.specs.Prelude.{◌≡◌};
@@ -11,11 +11,13 @@ ghost use Rattle.godoc.specs.Status.{exit_status_of};
 
 mod answer;
 mod command_line;
-mod edition;
+mod config;
+mod faults;
 mod find;
 mod hit_lines;
 mod pages;
 mod run;
+mod scan;
 mod site;
 mod status;
 #[cfg(test)]

@@ -4,7 +4,10 @@ ghost use Rattle.std.specs.Prelude.{◌≡◌, ◌≢◌, ◌⊎◌, ◌↔◌, 
 ghost use Rattle.plain_data.specs.Causes.{IsCaused, Rose};
 ghost use Rattle.tree_io.specs.Scans.{OpensScan};
 ghost use Rattle.godoc.specs.Words.{AskForScan, answer, command_of, find};
-ghost use Rattle.godoc.specs.Outcome.{IsOfFind, OpensAtMostOne, WritesFound, WritesFront};
+ghost use Rattle.godoc.specs.Defaults.{defaults};
+ghost use Rattle.godoc.specs.Limits.{IsTooLarge};
+ghost use Rattle.godoc.specs.Outcome.{IsOfFind, IsOfTree, IsWithoutFault, OpensAtMostOne};
+ghost use Rattle.godoc.specs.Outcome.{WritesFound, WritesFront};
 ghost use Rattle.godoc.specs.Serving.{Answers, IsOfAnswer};
 
 use crate::answer::answer;
@@ -19,14 +22,18 @@ use tree_io::Tree;
 /// Does what the words of the command line ask for, and tells how that ended.
 ///
 /// The words `find` and an identifier that is no keyword ask for the places of a name. The call
-/// opens a scan of the tree, reads and scans its files one after another, and writes a line
-/// `PATH:LINE:COL` for each identifier with that name, by rising path and offset. Lines and columns
-/// are counted from 1, and columns in bytes. Files that can't be read or scanned are passed over.
+/// opens a scan of the tree, reads its files one after another, and writes a line `PATH:LINE:COL`
+/// for each identifier with that name, by rising path and offset. Lines and columns are counted
+/// from 1, and columns in bytes. Files with a fault, files that aren't for Go 1.23 on linux and
+/// amd64, and files beside a package of another name are left out.
 ///
 /// The word `answer` alone asks for the replies to the requests of one connection. The call scans
 /// the tree once, and serves the input and the output as the two ways of the connection, by the
-/// packages that the scan found. It ends with the input, after a request that closes, after what
-/// can't be a request, and after 1,000 replies. All other words give `Usage`.
+/// packages and the faults that the scan found. It ends with the input, after a request that
+/// closes, after what can't be a request, and after 1,000 replies. All other words give `Usage`.
+///
+/// A tree with more than 20,000 files gives `Limit` before any of them is read, and one whose files
+/// have more than 134,217,728 bytes together after the first with which they do.
 ///
 /// `answer` ends its publisher, which may wait for readers that are entering; there are none then.
 /// What the clauses say holds if the call returns.
@@ -58,8 +65,14 @@ pub fn run<R: Wait, T: Tree, I: Source, O: Sink>(
         (result ≡ Status.ReadFault) }
     ensures write_faults { IsCaused (O.write_faults out.old) (O.write_faults out.new)
         (result ≡ Status.WriteFault) }
-    ensures unread { result ≡ Status.TreeFault → input.new ≡ input.old }
-    ensures unwritten { result ≡ Status.TreeFault → out.new ≡ out.old }
+    ensures unread { IsOfTree result → input.new ≡ input.old }
+    ensures unwritten { IsOfTree result → out.new ≡ out.old }
+
+    // A tree that could be listed is too large by its files, or by those that were read. The
+    // sources of every other answer are within the limits.
+    ensures limit { (files bytes : ℕ) → AskForScan (command_of (map string_bytes words.now))
+        → result ≡ Status.Limit files bytes → IsTooLarge (T.scans tree.new)
+        (T.read_faults tree.old) (T.read_faults tree.new) files bytes }
 
     // Want of memory may come before the scan.
     ensures at_most_one_scan { OpensAtMostOne (T.scans tree.old) (T.scans tree.new) }
@@ -67,48 +80,47 @@ pub fn run<R: Wait, T: Tree, I: Source, O: Sink>(
         → result ≢ Status.TreeFault → result ≢ Status.NoMemory
         → OpensScan (T.scans tree.old) (T.scans tree.new) }
 
-    // Exactly the text of `find` over the sources of that scan, or a first part of it.
+    // Exactly the text of `find` over the sources of that scan, or a first part of it, by the
+    // configuration of the defaults.
     ensures found { (name : List ℕ) → command_of (map string_bytes words.now) ≡ Some (find name)
-        → result ≡ Status.Done → WritesFound name (T.scans tree.new)
+        → result ≡ Status.Done → WritesFound defaults name (T.scans tree.new)
         (T.read_faults tree.old) (T.read_faults tree.new) (O.held out.old) (O.held out.new) }
     ensures front { (name : List ℕ) → command_of (map string_bytes words.now) ≡ Some (find name)
-        → result ≡ Status.WriteFault → WritesFront name (T.scans tree.new)
+        → result ≡ Status.WriteFault → WritesFront defaults name (T.scans tree.new)
         (T.read_faults tree.old) (T.read_faults tree.new) (O.held out.old) (O.held out.new) }
     ensures find_starved { (name : List ℕ)
         → command_of (map string_bytes words.now) ≡ Some (find name) → result ≡ Status.NoMemory
-        → (out.new ≡ out.old) ⊎ WritesFront name (T.scans tree.new)
+        → (out.new ≡ out.old) ⊎ WritesFront defaults name (T.scans tree.new)
         (T.read_faults tree.old) (T.read_faults tree.new) (O.held out.old) (O.held out.new) }
 
-    // Exactly the text of the connection, by the one edition that the sources of that scan define,
-    // or what a session leaves that fails. Where memory is wanting for the edition nothing is read
-    // or written.
+    // Exactly the text of the connection, by the one edition that the sources of that scan define
+    // by that configuration, or what a session leaves that fails. Where memory is wanting for the
+    // edition nothing is read or written.
     ensures answered { command_of (map string_bytes words.now) ≡ Some answer
-        → result ≢ Status.TreeFault → result ≢ Status.NoMemory
-        → Answers (T.scans tree.old) (T.scans tree.new)
+        → (IsOfTree result → ⊥) → result ≢ Status.NoMemory
+        → Answers defaults (T.scans tree.old) (T.scans tree.new)
         (T.read_faults tree.old) (T.read_faults tree.new)
         (I.remaining input.old) (I.remaining input.new) (O.held out.old) (O.held out.new) result }
     ensures answer_starved { command_of (map string_bytes words.now) ≡ Some answer
         → result ≡ Status.NoMemory
         → ((input.new ≡ input.old) × (out.new ≡ out.old))
-        ⊎ Answers (T.scans tree.old) (T.scans tree.new)
+        ⊎ Answers defaults (T.scans tree.old) (T.scans tree.new)
         (T.read_faults tree.old) (T.read_faults tree.new)
         (I.remaining input.old) (I.remaining input.new) (O.held out.old) (O.held out.new) result }
 
-    // Where no count of faults rose, only want of memory keeps a command from its end.
+    // Where no count of faults rose, only want of memory and the limits keep a command from its
+    // end.
     ensures complete { ¬ (command_of (map string_bytes words.now) ≡ None)
         → ¬ (Rose (T.list_faults tree.old) (T.list_faults tree.new))
         → ¬ (Rose (I.read_faults input.old) (I.read_faults input.new))
         → ¬ (Rose (O.write_faults out.old) (O.write_faults out.new))
-        → (result ≡ Status.Done) ⊎ (result ≡ Status.NoMemory) }
+        → IsWithoutFault result }
 {
     let Some(command) = command_of(words) else {
         return Status::Usage;
     };
     match command {
-        Command::Find(name) => match find(alloc, name, tree, out) {
-            Ok(()) => Status::Done,
-            Err(stop) => Status::from(stop),
-        },
+        Command::Find(name) => find(alloc, name, tree, out),
         Command::Answer => answer(rt, alloc, tree, input, out),
     }
 }

@@ -3,8 +3,8 @@
 ghost use Rattle.std.specs.Prelude.{◌≡◌, IfOk};
 ghost use Rattle.godoc.specs.Replies.{code_of, content_by, page_of, reply_with};
 
-use crate::edition::Edition;
-use crate::pages::{list_page, message_page};
+use crate::pages::{faults_page, list_page, message_page};
+use corpus::Corpus;
 use http_wire::{Code, Request, Verb, reply_head};
 use plain_data::Mem;
 use routes::{Router, Target};
@@ -16,7 +16,7 @@ fn code_of(target: &Target) -> Code
     ensures { result ≡ code_of target.now }
 {
     match target {
-        Target::List => Code::Ok,
+        Target::List | Target::Faults => Code::Ok,
         Target::BadTarget => Code::BadRequest,
         Target::BadVerb => Code::NotAllowed,
         _ => Code::NotFound,
@@ -24,11 +24,12 @@ fn code_of(target: &Target) -> Code
 }
 
 /// The page of the reply.
-fn page_of(alloc: Global, edition: &Edition, target: &Target) -> Mem<Vec<u8>>
-    ensures { IfOk result (λ page. page.items ≡ page_of edition.now target.now) }
+fn page_of(alloc: Global, corpus: &Corpus, target: &Target) -> Mem<Vec<u8>>
+    ensures { IfOk result (λ page. page.items ≡ page_of corpus.now target.now) }
 {
     match target {
-        Target::List => list_page(alloc, edition.packages()),
+        Target::List => list_page(alloc, corpus),
+        Target::Faults => faults_page(alloc, corpus),
         Target::BadTarget => message_page(alloc, "Bad request"),
         Target::BadVerb => message_page(alloc, "Method not allowed"),
         _ => message_page(alloc, "Not found"),
@@ -77,7 +78,7 @@ impl Site {
     }
 }
 
-impl Responder<Edition> for Site {
+impl Responder<Corpus> for Site {
     ghost use Rattle.godoc.specs.Replies.{reply_of};
 
     ghost reply_of = { λ _. reply_of };
@@ -86,7 +87,7 @@ impl Responder<Edition> for Site {
         &self,
         alloc: Global,
         number: u64,
-        edition: &Edition,
+        edition: &Corpus,
         request: &Request,
         last: bool,
     ) -> Mem<Vec<u8>> {

@@ -1,9 +1,9 @@
-//! How a run ended, and why a command stopped before its end.
+//! How a run ended.
 
 ghost use Rattle.std.specs.Prelude.{◌≡◌, option_copied};
 ghost use Rattle.godoc.specs.Status.{exit_status_of, message_of};
 
-use go_ast::NoMemory;
+use crate::scan::ScanFault;
 use session::SessionEnd;
 
 /// How a run ended.
@@ -32,39 +32,18 @@ pub enum Status {
     DoorFault,
 }
 
-/// Why a command stopped before its end.
-#[derive(Clone, Copy, Debug, PartialEq, Eq)]
-pub(crate) enum Stop {
-    /// The tree could not be listed.
-    TreeFault,
-    /// The output could not be written.
-    WriteFault,
-    /// An allocation was refused.
-    NoMemory,
-}
-
-impl From<NoMemory> for Stop {
-    ghost use Rattle.std.specs.Prelude.{◌≡◌};
-    ghost use Rattle.godoc.specs.declared.status.Stop.TheVariants as stops;
-
-    ghost from_gives = { λ _ stop. stop ≡ stops.NoMemory };
-
-    fn from(_: NoMemory) -> Stop {
-        Stop::NoMemory
-    }
-}
-
-impl From<Stop> for Status {
+impl From<ScanFault> for Status {
     ghost use Rattle.std.specs.Prelude.{◌≡◌};
     ghost use Rattle.godoc.specs.Steps.{status_of};
 
-    ghost from_gives = { λ stop status. status ≡ status_of stop };
+    ghost from_gives = { λ fault status. status ≡ status_of fault };
 
-    fn from(stop: Stop) -> Status {
-        match stop {
-            Stop::TreeFault => Status::TreeFault,
-            Stop::WriteFault => Status::WriteFault,
-            Stop::NoMemory => Status::NoMemory,
+    fn from(fault: ScanFault) -> Status {
+        match fault {
+            ScanFault::TreeFault => Status::TreeFault,
+            ScanFault::TooManyFiles(files) => Status::Limit { files, bytes: 0 },
+            ScanFault::TooManyBytes(bytes) => Status::Limit { files: 0, bytes },
+            ScanFault::NoMemory => Status::NoMemory,
         }
     }
 }

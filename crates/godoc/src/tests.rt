@@ -5,7 +5,7 @@ use link_io::{MemSink, MemSource};
 use std::alloc::Global;
 use std::sync::Wait;
 use std::test::Fail;
-use tree_io::MemTree;
+use tree_io::{MemTree, Tree};
 
 /// A tree of one version, whose calls with these numbers fail.
 fn tree_of(alloc: Global, files: &[(&str, &[u8])], failing: &[u64]) -> Result<MemTree, Fail> {
@@ -67,12 +67,12 @@ fn finds_in_the_order_of_the_paths(rt: HostRuntime) -> Result<(), Fail> {
         ("_x/x.go", b"package p"),
         ("c.txt", b"package p"),
         ("faulty.go", b"package p; var _ = 08"),
-        ("a.go", b"package a; var _ = \"p\" // p\nvar _ = p.p"),
+        ("a.go", b"package p; var _ = \"p\" // p\nvar _ = p.p"),
     ];
     let mut tree = tree_of(rt.alloc(), &files, &[])?;
     let (status, written) = run_on(&rt, rt.alloc(), &["find", "p"], &mut tree, 1, &[])?;
     assert_eq!(rt; status, Status::Done);
-    let wanted = b"a.go:2:9\na.go:2:11\na/c.go:1:9\na/c.go:2:6\nb.go:1:9\n";
+    let wanted = b"a.go:1:9\na.go:2:9\na.go:2:11\na/c.go:1:9\na/c.go:2:6\nb.go:1:9\n";
     assert_eq!(rt; written.as_slice(), wanted.as_slice());
     Ok(())
 }
@@ -155,5 +155,124 @@ fn takes_an_underscore_for_a_name(rt: HostRuntime) -> Result<(), Fail> {
     let (status, written) = run_on(&rt, rt.alloc(), &["find", "_"], &mut tree, 4096, &[])?;
     assert_eq!(rt; status, Status::Done);
     assert_eq!(rt; written.as_slice(), b"e.go:1:16\n".as_slice());
+    Ok(())
+}
+
+#[test]
+fn leaves_out_files_for_another_platform(rt: HostRuntime) -> Result<(), Fail> {
+    let files: [(&str, &[u8]); 5] = [
+        ("a.go", b"package x"),
+        ("b.go", b"//go:build ignore\n\npackage x\n"),
+        (
+            "c.go",
+            b"//go:build linux && amd64 && go1.23\n\npackage x\n",
+        ),
+        ("x_linux.go", b"package x"),
+        ("x_windows.go", b"package x"),
+    ];
+    let mut tree = tree_of(rt.alloc(), &files, &[])?;
+    let (status, written) = run_on(&rt, rt.alloc(), &["find", "x"], &mut tree, 4096, &[])?;
+    assert_eq!(rt; status, Status::Done);
+    let wanted = b"a.go:1:9\nc.go:3:9\nx_linux.go:1:9\n";
+    assert_eq!(rt; written.as_slice(), wanted.as_slice());
+    Ok(())
+}
+
+#[test]
+fn leaves_out_files_beside_another_package(rt: HostRuntime) -> Result<(), Fail> {
+    let files: [(&str, &[u8]); 6] = [
+        ("q/a.go", b"package q; var x = 1"),
+        ("q/b.go", b"package r; var x = 1"),
+        ("q/c_test.go", b"package q_test; var x = 1"),
+        ("q/d_test.go", b"package x"),
+        ("r/b.go", b"package r; var x = 1"),
+        ("t/t_test.go", b"package x_test; var x = 1"),
+    ];
+    let mut tree = tree_of(rt.alloc(), &files, &[])?;
+    let (status, written) = run_on(&rt, rt.alloc(), &["find", "x"], &mut tree, 4096, &[])?;
+    assert_eq!(rt; status, Status::Done);
+    let wanted = b"q/a.go:1:16\nq/c_test.go:1:21\nr/b.go:1:16\nt/t_test.go:1:21\n";
+    assert_eq!(rt; written.as_slice(), wanted.as_slice());
+    Ok(())
+}
+
+#[test]
+fn finds_nothing_in_an_empty_tree(rt: HostRuntime) -> Result<(), Fail> {
+    let mut tree = tree_of(rt.alloc(), &[], &[])?;
+    let (status, written) = run_on(&rt, rt.alloc(), &["find", "x"], &mut tree, 4096, &[])?;
+    assert_eq!(rt; status, Status::Done);
+    assert!(rt; written.is_empty());
+    Ok(())
+}
+
+/// A tree of one version with these files, whose call with this number fails.
+fn tree_of_version(
+    alloc: Global,
+    version: Seq<(Txt, Bytes)>,
+    failing: u64,
+) -> Result<MemTree, Fail> {
+    let mut versions = Seq::new(alloc);
+    versions.push(version)?;
+    Ok(MemTree::new(alloc, versions, Vec::from_slice(alloc, &[failing])?)?)
+}
+
+/// A tree with so many empty files, whose third call fails.
+fn tree_of_many(alloc: Global, count: u32) -> Result<MemTree, Fail> {
+    let mut version = Seq::new(alloc);
+    for number in 0..count {
+        let path = Txt::from_string(format!(in alloc; "{number}.go")?);
+        version.push((path, Bytes::from_slice(alloc, &[])?))?;
+    }
+    tree_of_version(alloc, version, 3)
+}
+
+#[test]
+fn tells_a_tree_with_too_many_files(rt: HostRuntime) -> Result<(), Fail> {
+    for words in [["find", "x"].as_slice(), &["answer"]] {
+        let mut tree = tree_of_many(rt.alloc(), 20_001)?;
+        let (status, written) = run_on(&rt, rt.alloc(), words, &mut tree, 4096, &[])?;
+        let wanted = Status::Limit {
+            files: 20_001,
+            bytes: 0,
+        };
+        assert_eq!(rt; status, wanted);
+        assert!(rt; written.is_empty());
+        // The scan was opened and listed, and nothing was read: this is the third call.
+        assert!(rt; tree.open_scan().is_err());
+    }
+    Ok(())
+}
+
+#[test]
+fn takes_as_many_files_as_are_allowed(rt: HostRuntime) -> Result<(), Fail> {
+    let mut tree = tree_of_many(rt.alloc(), 20_000)?;
+    let (status, _) = run_on(&rt, rt.alloc(), &["find", "x"], &mut tree, 4096, &[])?;
+    assert_eq!(rt; status, Status::Done);
+    Ok(())
+}
+
+#[test]
+fn tells_a_tree_with_too_many_bytes(rt: HostRuntime) -> Result<(), Fail> {
+    let alloc = rt.alloc();
+    let largest = vec![in alloc; b'\n'; 4_194_304]?;
+    let mut version = Seq::new(alloc);
+    for number in 10..42 {
+        let path = Txt::from_string(format!(in alloc; "{number}.go")?);
+        version.push((path, Bytes::from_slice(alloc, largest.as_slice())?))?;
+    }
+    for path in ["42.go", "43.go"] {
+        let path = Txt::from_str(alloc, path)?;
+        version.push((path, Bytes::from_slice(alloc, b"\n")?))?;
+    }
+    let mut tree = tree_of_version(alloc, version, 36)?;
+    let (status, written) = run_on(&rt, alloc, &["find", "x"], &mut tree, 4096, &[])?;
+    let wanted = Status::Limit {
+        files: 0,
+        bytes: 134_217_729,
+    };
+    assert_eq!(rt; status, wanted);
+    assert!(rt; written.is_empty());
+    // The file after the one with which the bytes pass wasn't read: this is the 36th call.
+    assert!(rt; tree.open_scan().is_err());
     Ok(())
 }

@@ -212,7 +212,7 @@ fn lists_the_folders_that_name_a_package(rt: HostRuntime) -> Result<(), Fail> {
     let (status, written) = answer_to(&rt, rt.alloc(), given)?;
     assert_eq!(rt; status, Status::Done);
     let page =
-        b"HTTP/1.1 200 OK\r\nContent-Type: text/html; charset=utf-8\r\nContent-Length: 356\r\nGodoc-Edition: 1\r\n\r\n<!DOCTYPE html>\n<html><head><meta charset=\"utf-8\"><title>Packages</title></head><body>\n<h1>Packages</h1>\n<ul>\n<li><a href=\"/pkg/_/\">_</a></li>\n<li><a href=\"/pkg/a%20b%26c/%C3%A9/\">a b&amp;c/\xc3\xa9</a></li>\n<li><a href=\"/pkg/net-x/\">net-x</a></li>\n<li><a href=\"/pkg/net/http/\">net/http</a></li>\n<li><a href=\"/pkg/net/url/\">net/url</a></li>\n</ul>\n</body></html>\n";
+        b"HTTP/1.1 200 OK\r\nContent-Type: text/html; charset=utf-8\r\nContent-Length: 405\r\nGodoc-Edition: 1\r\n\r\n<!DOCTYPE html>\n<html><head><meta charset=\"utf-8\"><title>Packages</title></head><body>\n<h1>Packages</h1>\n<ul>\n<li><a href=\"/pkg/_/\">_</a></li>\n<li><a href=\"/pkg/a%20b%26c/%C3%A9/\">a b&amp;c/\xc3\xa9</a></li>\n<li><a href=\"/pkg/net-x/\">net-x</a></li>\n<li><a href=\"/pkg/net/http/\">net/http</a></li>\n<li><a href=\"/pkg/net/url/\">net/url</a></li>\n</ul>\n<p><a href=\"/faults\">5 files with faults</a></p>\n</body></html>\n";
     assert_eq!(rt; written.as_slice(), page.as_slice());
     Ok(())
 }
@@ -238,5 +238,94 @@ fn tells_which_part_failed(rt: HostRuntime) -> Result<(), Fail> {
         assert_eq!(rt; status, wanted);
         assert_eq!(rt; written.len(), length);
     }
+    Ok(())
+}
+
+/// The reply that has a fault page with this list.
+fn fault_reply(alloc: Global, list: &[u8]) -> Result<Vec<u8>, Fail> {
+    let page = joined(
+        alloc,
+        &[
+            b"<!DOCTYPE html>\n<html><head><meta charset=\"utf-8\"><title>Faults</title></head><body>\n<h1>Faults</h1>\n<ul>\n",
+            list,
+            b"</ul>\n</body></html>\n",
+        ],
+    )?;
+    let length = format!(in alloc; "{}", page.len())?;
+    joined(
+        alloc,
+        &[
+            b"HTTP/1.1 200 OK\r\nContent-Type: text/html; charset=utf-8\r\nContent-Length: ",
+            length.as_bytes(),
+            b"\r\nGodoc-Edition: 1\r\n\r\n",
+            page.as_slice(),
+        ],
+    )
+}
+
+const FAULTS_REQUEST: &[u8] = b"GET /faults HTTP/1.1\r\nHost: a\r\n\r\n";
+
+#[test]
+fn lists_the_files_with_faults(rt: HostRuntime) -> Result<(), Fail> {
+    let files: [(&str, &[u8]); 5] = [
+        ("q/a.go", b"package q\nfunc {\n}\n"),
+        ("q/b.go", b"package q\n\xff"),
+        ("q/c.go", b"package q\n"),
+        ("q/d.go", b"package q\n"),
+        ("q/e.go", b"package r\n"),
+    ];
+    let four =
+        b"<li><a href=\"/src/q/a.go\">q/a.go</a>: fault 7: bad declaration 2 at line 2</li>\n<li>q/b.go: fault 1: not UTF-8 at byte 10</li>\n<li>q/c.go: fault 12: unread</li>\n";
+    let fifth =
+        b"<li><a href=\"/src/q/e.go\">q/e.go</a>: fault 8: package r beside another package</li>\n";
+    for (count, more) in [(4, b"".as_slice()), (5, fifth)] {
+        let given = Given {
+            files: &files[..count],
+            failing_calls: &[5],
+            ..Given::input(FAULTS_REQUEST)
+        };
+        let (status, written) = answer_to(&rt, rt.alloc(), given)?;
+        assert_eq!(rt; status, Status::Done);
+        let list = joined(rt.alloc(), &[four, more])?;
+        let wanted = fault_reply(rt.alloc(), list.as_slice())?;
+        assert_eq!(rt; written.as_slice(), wanted.as_slice());
+    }
+    Ok(())
+}
+
+#[test]
+fn lists_each_kind_of_fault(rt: HostRuntime) -> Result<(), Fail> {
+    let large = vec![in rt.alloc(); b'\n'; 4_194_305]?;
+    let files: [(&str, &[u8]); 9] = [
+        ("a <&>.go", b"package q\nvar x = 08"),
+        ("b.go", b"package q /* x"),
+        ("c.go", b"package q; var s = \"x"),
+        ("d.go", b"package q\nfunc f() {"),
+        ("e.go", b"import \"x\""),
+        ("f.go", large.as_slice()),
+        ("g.go", b"package q\n"),
+        ("h.go", b"//go:build (a\npackage q"),
+        ("i.go", b"package r"),
+    ];
+    let given = Given {
+        files: &files,
+        failing_calls: &[9],
+        ..Given::input(FAULTS_REQUEST)
+    };
+    let (status, written) = answer_to(&rt, rt.alloc(), given)?;
+    assert_eq!(rt; status, Status::Done);
+    let list =
+        b"<li><a href=\"/src/a%20%3C%26%3E.go\">a &lt;&amp;&gt;.go</a>: fault 2: bad token at byte 18</li>\n<li><a href=\"/src/b.go\">b.go</a>: fault 3: open comment at byte 10</li>\n<li><a href=\"/src/c.go\">c.go</a>: fault 4: open string at byte 19</li>\n<li><a href=\"/src/d.go\">d.go</a>: fault 5: unbalanced at byte 19</li>\n<li><a href=\"/src/e.go\">e.go</a>: fault 6: no package clause</li>\n<li>f.go: fault 11: file too large</li>\n<li>g.go: fault 12: unread</li>\n<li><a href=\"/src/h.go\">h.go</a>: fault 13: bad build line 1</li>\n";
+    let wanted = fault_reply(rt.alloc(), list)?;
+    assert_eq!(rt; written.as_slice(), wanted.as_slice());
+    Ok(())
+}
+
+#[test]
+fn lists_no_fault_where_there_is_none(rt: HostRuntime) -> Result<(), Fail> {
+    let (status, written) = answer_to(&rt, rt.alloc(), Given::input(FAULTS_REQUEST))?;
+    assert_eq!(rt; status, Status::Done);
+    let wanted = fault_reply(rt.alloc(), b"")?;
+    assert_eq!(rt; written.as_slice(), wanted.as_slice());
     Ok(())
 }
