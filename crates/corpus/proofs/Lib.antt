@@ -8,6 +8,7 @@ mod Numbers
 mod OneCorpus
 mod PackageCounts
 mod PackageNames
+mod PieceLists
 mod Places
 mod ReadFiles
 mod TokenTexts

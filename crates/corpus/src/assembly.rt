@@ -60,6 +60,11 @@ fn make_tables(alloc: Global, snapshot: &Snapshot, pieces: &[Piece]) -> Mem<Tabl
 
 /// The corpus of a snapshot, whose pieces are those of its files, in their order.
 ///
+/// Its packages are those that the accepted files make up, one for each folder (Go specification,
+/// "Packages"). Its faults are those of the outcomes, and `OtherPackage` for an accepted file that
+/// stands beside a package of another name; such a file is in no package and has no hits. The table
+/// has the identifiers of all other accepted files.
+///
 /// # Errors
 /// `NoMemory` where an allocation was refused; the snapshot and the pieces are dropped.
 pub fn assemble(alloc: Global, snapshot: Snapshot, pieces: Seq<Piece>) -> Mem<Corpus>

@@ -68,14 +68,16 @@ impl Corpus {
         self.snapshot.config()
     }
 
-    /// How many files the scan has. It takes no memory.
+    /// How many files the scan has. They have the numbers below that, by their paths. It takes no
+    /// memory.
     pub fn files(&self) -> u32
         ensures { result ≡ length self.now.sources.entries }
     {
         self.snapshot.files()
     }
 
-    /// What the scan has of a file. It takes no memory.
+    /// What the scan has of the file with a number, which is below [`Corpus::files`]. It takes no
+    /// memory.
     pub fn entry(&self, number: u32) -> &Entry
         requires { number < length self.now.sources.entries }
         ensures { slice_get (map (λ e. e.1) self.now.sources.entries) number ≡ Some result.now }
@@ -83,7 +85,7 @@ impl Corpus {
         self.snapshot.entry(number)
     }
 
-    /// The path of a file. It takes no memory.
+    /// The path of the file with a number, which is below [`Corpus::files`]. It takes no memory.
     pub fn path(&self, number: u32) -> &str
         requires { number < length self.now.sources.entries }
         ensures { slice_get (paths_of self.now.sources.entries) number ≡ Some result.now }
@@ -91,7 +93,7 @@ impl Corpus {
         self.snapshot.path(number)
     }
 
-    /// The outcome of a file. It takes no memory.
+    /// The outcome of the file with a number, which is below [`Corpus::files`]. It takes no memory.
     pub fn piece(&self, number: u32) -> &Piece
         requires { number < length self.now.sources.entries }
         ensures { slice_get self.now.tables.files number ≡ Some result.now }
@@ -99,7 +101,8 @@ impl Corpus {
         &self.pieces.as_slice()[number as usize]
     }
 
-    /// The packages, rising by the bytes of their paths. It takes no memory.
+    /// The packages, rising by the bytes of their paths; their files are named by numbers (Go
+    /// specification, "Packages"). It takes no memory.
     pub fn packages(&self) -> &[Package]
         ensures { result.now ≡ self.now.tables.packages }
     {
@@ -113,7 +116,8 @@ impl Corpus {
         self.faults.as_slice()
     }
 
-    /// The table of the identifiers of all files that belong to packages. It takes no memory.
+    /// The table of the identifiers of all files that belong to packages; their hits name files by
+    /// numbers. It takes no memory.
     pub fn postings(&self) -> &Postings
         ensures { result.now ≡ self.now.tables.postings }
     {

@@ -88,7 +88,7 @@ impl Snapshot {
         self.entries.len() as u32
     }
 
-    /// The path of a file. It takes no memory.
+    /// The path of the file with a number, which is below [`Snapshot::files`]. It takes no memory.
     pub fn path(&self, number: u32) -> &str
         requires { number < length self.now.entries }
         ensures { slice_get (paths_of self.now.entries) number ≡ Some result.now }
@@ -96,7 +96,8 @@ impl Snapshot {
         self.entries.as_slice()[number as usize].0.as_str()
     }
 
-    /// What the scan has of a file. It takes no memory.
+    /// What the scan has of the file with a number, which is below [`Snapshot::files`]. It takes no
+    /// memory.
     pub fn entry(&self, number: u32) -> &Entry
         requires { number < length self.now.entries }
         ensures { slice_get (map (λ e. e.1) self.now.entries) number ≡ Some result.now }
