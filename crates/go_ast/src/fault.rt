@@ -1,6 +1,6 @@
 //! Why a source is refused.
 
-use plain_data::Txt;
+use plain_data::{NoMemory, Txt};
 use std::error::Error;
 use std::fmt;
 
@@ -39,6 +39,17 @@ pub enum Refused {
     Fault(Fault),
     /// An allocation was refused.
     NoMemory,
+}
+
+impl From<NoMemory> for Refused {
+    ghost use Rattle.std.specs.Prelude.{◌≡◌};
+    ghost use Rattle.go_ast.specs.declared.fault.Refused.TheVariants as refusals;
+
+    ghost from_gives = { λ _ refused. refused ≡ refusals.NoMemory };
+
+    fn from(_: NoMemory) -> Refused {
+        Refused::NoMemory
+    }
 }
 
 impl fmt::Display for Fault {

@@ -20,7 +20,7 @@ use crate::fault::fault_at;
 use crate::front::item_shape;
 use crate::lines::line_starts;
 use crate::shape::Shape;
-use go_ast::{Comment, Fault, Refused, Scanned, Seq, Span, Token, TokenKind};
+use go_ast::{Comment, Fault, Mem, Refused, Scanned, Seq, Span, Token, TokenKind};
 use std::alloc::Global;
 
 /// The tokens and comments of a source.
@@ -31,25 +31,19 @@ struct Found {
 }
 
 /// No token yet, with room for as many as a source of this length mostly has.
-fn no_tokens(alloc: Global, length: usize) -> Result<Vec<Token>, Refused>
-    ensures tokens { IfOk result (λ tokens. tokens.items ≡ []) }
-    ensures err { IfErr result (λ refused. refused ≡ Refused.NoMemory) }
+fn no_tokens(alloc: Global, length: usize) -> Mem<Vec<Token>>
+    ensures { IfOk result (λ tokens. tokens.items ≡ []) }
 {
-    Vec::with_capacity(alloc, length / 4).map_err(no_memory)
+    Ok(Vec::with_capacity(alloc, length / 4)?)
 }
 
 /// Adds the semicolon that the last token takes, where a line ends, and gives what is pending after
 /// that.
 #[inline(always)]
-fn end_line(
-    tokens: &mut Vec<Token>,
-    pending: Option<u32>,
-    ends: bool,
-) -> Result<Option<u32>, Refused>
+fn end_line(tokens: &mut Vec<Token>, pending: Option<u32>, ends: bool) -> Mem<Option<u32>>
     ensures tokens { OnOk result
         (tokens.new.items ≡ tokens.old.items ++ semicolon_at ends pending) }
     ensures pending { IfOk result (λ left. left ≡ pending_at ends pending) }
-    ensures err { IfErr result (λ refused. refused ≡ Refused.NoMemory) }
 {
     match pending {
         Some(end) if ends => {
@@ -70,35 +64,23 @@ fn pending_of(takes: bool, end: u32) -> Option<u32>
 
 /// Adds a token that stands between two offsets.
 #[inline(always)]
-fn push_token(tokens: &mut Vec<Token>, kind: TokenKind, start: u32, end: u32) -> Result<(), Refused>
-    ensures ok { OnOk result (tokens.new.items ≡ tokens.old.items ++ token_of kind start end ∷ []) }
-    ensures err { IfErr result (λ refused. refused ≡ Refused.NoMemory) }
+fn push_token(tokens: &mut Vec<Token>, kind: TokenKind, start: u32, end: u32) -> Mem<()>
+    ensures { OnOk result (tokens.new.items ≡ tokens.old.items ++ token_of kind start end ∷ []) }
 {
     let span = Span { start, end };
-    tokens.push(Token { kind, span }).map_err(no_memory)
+    tokens.push(Token { kind, span })?;
+    Ok(())
 }
 
 /// Adds a comment that stands between two offsets.
 #[inline(always)]
-fn push_comment(
-    comments: &mut Vec<Comment>,
-    general: bool,
-    start: u32,
-    end: u32,
-) -> Result<(), Refused>
-    ensures ok { OnOk result
+fn push_comment(comments: &mut Vec<Comment>, general: bool, start: u32, end: u32) -> Mem<()>
+    ensures { OnOk result
         (comments.new.items ≡ comments.old.items ++ comment_of general start end ∷ []) }
-    ensures err { IfErr result (λ refused. refused ≡ Refused.NoMemory) }
 {
     let span = Span { start, end };
-    comments.push(Comment { span, general }).map_err(no_memory)
-}
-
-/// The refusal of a call that found no memory.
-fn no_memory<E: Drop>(_: E) -> Refused
-    ensures { result ≡ Refused.NoMemory }
-{
-    Refused::NoMemory
+    comments.push(Comment { span, general })?;
+    Ok(())
 }
 
 /// How many bytes the byte order mark at the start has, or 0 where there is none.
@@ -210,7 +192,7 @@ pub fn scan(alloc: Global, source: &[u8]) -> Result<Scanned, Refused>
         Err(e) => return Err(Refused::Fault(Fault::NotUtf8(e.valid_up_to() as u32))),
     };
     let Found { tokens, comments } = read(alloc, text)?;
-    let lines = line_starts(alloc, source).map_err(no_memory)?;
+    let lines = line_starts(alloc, source)?;
     Ok(Scanned {
         tokens: Seq::from_vec(tokens),
         comments: Seq::from_vec(comments),

@@ -25,7 +25,7 @@ loop-at-init c =
     ∙ ap (λ l. c.mark_length.result + prefix_len is_blank (drop c.mark_length.result l))
     c.as_bytes-source.ensures.value
     ∙ ap (λ n. n + prefix_len is_blank (drop n c.args.text.now)) start) refl
-    c.in_ok-tokens.ensures.tokens c.new-comments.ensures.items
+    c.in_ok-tokens.ensures c.new-comments.ensures.items
 
 pub range_from-requires : goal.range_from-requires
 range_from-requires c =
@@ -190,7 +190,7 @@ loop-at-preserved-in-Continue-branch-4 c =
     ∙ ap (λ k. at + k + prefix_len is_blank (drop (at + k) c.args.text.now)) size)
     (c.in_ok-pending-in-Comment.ensures.pending)
     (c.in_ok-pending-in-Comment.ensures.tokens)
-    (c.in_ok-push_comment-in-Comment.ensures.ok
+    (c.in_ok-push_comment-in-Comment.ensures
     ∙ ap (λ k. c.loop-at.comments.items ++ comment_of false at (at + k) ∷ []) size)
 
 pub loop-at-preserved-in-Continue-branch-6 : goal.loop-at-preserved-in-Continue-branch-6
@@ -212,7 +212,7 @@ loop-at-preserved-in-Continue-branch-6 c =
     ∙ ap (λ k. at + k + prefix_len is_blank (drop (at + k) c.args.text.now)) size)
     (c.in_ok-pending-in-General.ensures.pending)
     (c.in_ok-pending-in-General.ensures.tokens)
-    (c.in_ok-push_comment-in-General.ensures.ok
+    (c.in_ok-push_comment-in-General.ensures
     ∙ ap (λ k. c.loop-at.comments.items ++ comment_of true at (at + k) ∷ []) size)
 
 pub loop-at-preserved : goal.loop-at-preserved
@@ -233,7 +233,7 @@ loop-at-preserved c =
     c.as_bytes-source.ensures.value
     ∙ ap (λ k. at + k + prefix_len is_blank (drop (at + k) c.args.text.now)) size)
     (c.pending_of-pending.ensures ∙ ap (λ k. pending_of c.in-Token.takes (at + k)) size)
-    (c.in_ok-push_token-in-Token.ensures.ok
+    (c.in_ok-push_token-in-Token.ensures
     ∙ ap (λ k. c.loop-at.tokens.items ++ token_of c.in-Token.kind at (at + k) ∷ []) size)
     (sym (append-nil c.loop-at.comments.items))
 
