@@ -1,4 +1,4 @@
--- Which files of a tree are read for a configuration. Public clauses cite these.
+-- Cited by public clauses. Which files of a tree are read for a configuration.
 use Rattle.std.specs.Prelude.{◌≡◌, ℕ, Bool, true, false, List, [], ◌∷◌, ◌⊎◌}
 use Rattle.go_ast.specs.declared.config.Config.{Config}
 use Rattle.go_ast.specs.declared.token.Comment.{Comment}

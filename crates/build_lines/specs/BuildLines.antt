@@ -1,5 +1,5 @@
--- Where build lines stand in a source (The go command, "Build constraints"). Public clauses cite
--- these.
+-- Cited by public clauses. Where build lines stand in a source (The go command, "Build
+-- constraints").
 use Rattle.std.specs.Prelude.{ℕ, ◌≤◌, Bool, true, false, ◌&&◌, not, List, [], ◌∷◌, Option, Some}
 use Rattle.std.specs.Prelude.{None, take, drop, if◌then◌else◌, ◌==◌, nat_eq, nat_lt, slice_range}
 use Rattle.std.specs.Prelude.{filter, codes, IsTrue}

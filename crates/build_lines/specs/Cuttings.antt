@@ -1,4 +1,4 @@
--- What a character makes of a `Cutting`. Only proofs and private clauses use this.
+-- Cited by private clauses and proofs. What a character makes of a `Cutting`.
 use Rattle.std.specs.Prelude.{◌≡◌, ℕ, Bool, List, [], ◌++◌, Some, None, MatchBool}
 use Rattle.std.specs.Prelude.{string_bytes, if◌then◌else◌}
 use Rattle.std.specs.Option.{option_to_list}

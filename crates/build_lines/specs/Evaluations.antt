@@ -1,4 +1,4 @@
--- What a symbol makes of an `Evaluation`. Only proofs and private clauses use this.
+-- Cited by private clauses and proofs. What a symbol makes of an `Evaluation`.
 use Rattle.std.specs.Prelude.{◌≡◌, Bool, Some, None, MatchBool, reverse}
 use Rattle.build_lines.specs.declared.evaluation.Evaluation.{Evaluation}
 use Rattle.build_lines.specs.declared.symbol.Symbol.{Symbol}

@@ -1,5 +1,5 @@
--- Expressions of build lines (The go command, "Build constraints"): trees, the symbols that a tree
--- is printed as, which trees are valid, and their value. Public clauses cite these.
+-- Cited by public clauses. Expressions of build lines (The go command, "Build constraints"): trees,
+-- the symbols that a tree is printed as, which trees are valid, and their value.
 use Rattle.std.specs.Prelude.{◌≡◌, ℕ, suc, ◌≤◌, Bool, true, false, ◌&&◌, ◌||◌, not, List, [], ◌∷◌}
 use Rattle.std.specs.Prelude.{◌++◌, ◌==◌, max, IsTrue, codes, Option, Some, None}
 use Rattle.std.specs.List.{list_all}

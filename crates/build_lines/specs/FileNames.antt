@@ -1,5 +1,5 @@
--- What the name of a file says of its system and architecture (The go command, "Build
--- constraints"). Public clauses cite these.
+-- Cited by public clauses. What the name of a file says of its system and architecture (The go
+-- command, "Build constraints").
 use Rattle.std.specs.Prelude.{ℕ, Bool, true, ◌&&◌, ◌||◌, List, ◌-◌, take, length}
 use Rattle.std.specs.Prelude.{if◌then◌else◌, ◌==◌, nat_eq, codes}
 use Rattle.std.specs.List.{after_last, before_first, before_last, ends_with, list_any}

@@ -1,8 +1,10 @@
+-- Cited by public clauses.
 pub mod Admissions
 pub mod BuildLines
-pub mod Cuttings
-pub mod Evaluations
 pub mod Expressions
 pub mod FileNames
-pub mod Reading
 pub mod Tags
+-- Cited by private clauses and proofs.
+pub mod Cuttings
+pub mod Evaluations
+pub mod Reading

@@ -1,5 +1,5 @@
--- How expressions are read: a step for each character, and then one for each symbol. Only proofs and
--- private clauses use these.
+-- Cited by private clauses and proofs. How expressions are read: a step for each character, and
+-- then one for each symbol.
 use Rattle.std.specs.Prelude.{ℕ, Bool, true, false, ◌&&◌, ◌||◌, not, List, [], ◌∷◌, ◌++◌, length}
 use Rattle.std.specs.Prelude.{Option, Some, None, if◌then◌else◌, ◌==◌, nat_lt, option_and_then}
 use Rattle.std.specs.Prelude.{encode_utf8}

@@ -1,5 +1,5 @@
--- The tags of build lines (The go command, "Build constraints"; Go's internal/syslist), and which
--- of them a configuration has. Public clauses cite these.
+-- Cited by public clauses. The tags of build lines (The go command, "Build constraints"; Go's
+-- internal/syslist), and which of them a configuration has.
 use Rattle.std.specs.Prelude.{ℕ, Bool, false, ◌&&◌, ◌||◌, not, List, [], ◌∷◌, drop, ◌==◌}
 use Rattle.std.specs.Prelude.{nat_eq, nat_le, codes}
 use Rattle.std.specs.List.{list_all, starts_with}

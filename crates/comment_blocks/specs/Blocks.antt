@@ -1,5 +1,5 @@
--- The blocks of a text: each span is the block of its kind (Go Doc Comments). Public clauses cite
--- these.
+-- Cited by public clauses. The blocks of a text: each span is the block of its kind (Go Doc
+-- Comments).
 use Rattle.std.specs.Prelude.{ℕ, Bool, true, false, ◌&&◌, List, [], ◌∷◌, if◌then◌else◌, Option}
 use Rattle.std.specs.Prelude.{Some, None}
 use Rattle.std.specs.List.{join_with_byte}

@@ -1,5 +1,4 @@
--- What a scan's lists keep to, and where a group begins. Only contracts of private functions and
--- proofs cite these.
+-- Cited by private clauses and proofs. What a scan's lists keep to, and where a group begins.
 use Rattle.std.specs.Prelude.{◌≡◌, ℕ, ◌<◌, ◌≤◌, true, false, List, length, slice_index_or, nat_lt}
 use Rattle.std.specs.List.Sorted.{IsNonDecreasingBy, IsPartitionPoint}
 use Rattle.go_ast.specs.declared.token.Token.{Token}

@@ -1,5 +1,5 @@
--- Groups of comments, and the group that documents a declaration (Go Doc Comments; The Go
--- Programming Language Specification, "Comments"). Public clauses cite these.
+-- Cited by public clauses. Groups of comments, and the group that documents a declaration (Go Doc
+-- Comments; The Go Programming Language Specification, "Comments").
 use Rattle.std.specs.Prelude.{◌≡◌, ℕ, zero, suc, ◌+◌, ◌-◌, ◌<◌, ◌≤◌, Bool, true, false, ◌&&◌, ◌||◌}
 use Rattle.std.specs.Prelude.{not, List, length, ◌==◌, nat_le, count_by, slice_get, Option, Some}
 use Rattle.std.specs.Prelude.{None}

@@ -1,5 +1,5 @@
--- What a plain span is: a heading, definitions of links, or a paragraph (Go Doc Comments,
--- "Headings", "Links", "Paragraphs"). Public clauses cite these.
+-- Cited by public clauses. What a plain span is: a heading, definitions of links, or a paragraph
+-- (Go Doc Comments, "Headings", "Links", "Paragraphs").
 use Rattle.std.specs.Prelude.{ℕ, ◌-◌, Bool, false, ◌&&◌, ◌||◌, not, List, [], ◌∷◌, length, take}
 use Rattle.std.specs.Prelude.{drop, if◌then◌else◌, ◌==◌, nat_eq, nat_lt, codes, Option, Some, None}
 use Rattle.std.specs.List.{last_or, list_any, prefix_len, starts_with, suffix_len}

@@ -1,9 +1,11 @@
+-- Cited by public clauses.
 pub mod Blocks
-pub mod GroupSteps
 pub mod Groups
 pub mod Kinds
-pub mod LineSteps
 pub mod Lists
 pub mod Spans
 pub mod Texts
+-- Cited by private clauses and proofs.
+pub mod GroupSteps
+pub mod LineSteps
 pub mod TextSteps

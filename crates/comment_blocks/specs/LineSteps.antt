@@ -1,5 +1,5 @@
--- The texts of lines, and how far an indented span goes. Only contracts of private functions and
--- proofs cite these, but for `one_further`, which the definitions of links in texts use too.
+-- Cited by private clauses and proofs. The texts of lines, and how far an indented span goes.
+-- `one_further` is cited by public clauses too, of the crate above.
 use Rattle.std.specs.Prelude.{ℕ, ◌+◌, ◌&&◌, Bool, true, false, not, Option, Some, None, List, []}
 use Rattle.std.specs.Prelude.{◌∷◌, ◌++◌, map, if◌then◌else◌, ◌==◌}
 use Rattle.std.specs.Borrow.{Bor}

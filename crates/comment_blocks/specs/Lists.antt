@@ -1,5 +1,5 @@
--- What an indented span is: a list or code (Go Doc Comments, "Lists", "Code blocks"). Public
--- clauses cite these.
+-- Cited by public clauses. What an indented span is: a list or code (Go Doc Comments, "Lists",
+-- "Code blocks").
 use Rattle.std.specs.Prelude.{ℕ, Bool, true, false, ◌&&◌, ◌||◌, not, List, [], ◌∷◌, ◌++◌, length}
 use Rattle.std.specs.Prelude.{take, drop, map, filter, min, if◌then◌else◌, ◌==◌, nat_eq, Option}
 use Rattle.std.specs.Prelude.{Some, None}

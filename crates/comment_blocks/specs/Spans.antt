@@ -1,4 +1,4 @@
--- The cutting of lines into spans (Go Doc Comments, "Syntax"). Public clauses cite these.
+-- Cited by public clauses. The cutting of lines into spans (Go Doc Comments, "Syntax").
 use Rattle.std.specs.Prelude.{◌≡◌, ℕ, Bool, true, false, ◌&&◌, not, List, [], ◌∷◌, if◌then◌else◌}
 use Rattle.std.specs.Prelude.{Option, Some, None}
 use Rattle.std.specs.List.{flat_map, list_all}

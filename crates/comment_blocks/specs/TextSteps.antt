@@ -1,5 +1,5 @@
--- What a line adds to the text before it, and what a comment holds in its source. Only contracts of
--- private functions and proofs cite these.
+-- Cited by private clauses and proofs. What a line adds to the text before it, and what a comment
+-- holds in its source.
 use Rattle.std.specs.Prelude.{ℕ, ◌+◌, ◌≤◌, Bool, true, false, List, [], ◌∷◌, ◌++◌, length, IsUtf8}
 use Rattle.std.specs.List.{fold}
 use Rattle.go_ast.specs.declared.token.Comment.{Comment}

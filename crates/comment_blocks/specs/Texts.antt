@@ -1,5 +1,5 @@
--- The text of a comment group (Go Doc Comments, "Syntax"; go/ast, "CommentGroup.Text"): a filter on
--- lines, a map and a join. Public clauses cite these.
+-- Cited by public clauses. The text of a comment group (Go Doc Comments, "Syntax"; go/ast,
+-- "CommentGroup.Text"): a filter on lines, a map and a join.
 use Rattle.std.specs.Prelude.{◌≡◌, ℕ, ◌+◌, ◌-◌, Bool, false, ◌&&◌, ◌||◌, List, [], ◌∷◌, length}
 use Rattle.std.specs.Prelude.{take, map, if◌then◌else◌, ◌==◌, nat_eq, codes, slice_range, Option}
 use Rattle.std.specs.Prelude.{Some, None}

@@ -1,5 +1,5 @@
--- What an escaped text can't hold (the HTML standard, "Character references"). Public clauses cite
--- these.
+-- Cited by public clauses. What an escaped text can't hold (the HTML standard, "Character
+-- references").
 use Rattle.std.specs.Prelude.{ℕ, Bool, true, ◌&&◌, ◌||◌, not, List, [], ◌∷◌, ◌==◌, nat_eq, codes}
 use Rattle.std.specs.List.{starts_with}
 use Rattle.text_out.specs.Escape.{ampersand, apostrophe, greater_than, less_than, quotation_mark}

@@ -1,5 +1,5 @@
--- The HTML of a comment's blocks, by their kinds (Go Doc Comments; the HTML standard). Public
--- clauses cite these.
+-- Cited by public clauses. The HTML of a comment's blocks, by their kinds (Go Doc Comments; the
+-- HTML standard).
 use Rattle.std.specs.Prelude.{ℕ, Bool, ◌&&◌, not, List, [], ◌∷◌, ◌++◌, Option, codes}
 use Rattle.std.specs.Prelude.{if◌then◌else◌}
 use Rattle.std.specs.List.{flat_map}

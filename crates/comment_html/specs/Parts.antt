@@ -1,5 +1,5 @@
--- What the HTML of a comment is made of: tags, which nest, and escaped texts. Public clauses cite
--- these.
+-- Cited by public clauses. What the HTML of a comment is made of: tags, which nest, and escaped
+-- texts.
 use Rattle.std.specs.Prelude.{◌≡◌, ℕ, Bool, true, false, ◌&&◌, not, List, [], ◌∷◌, ◌++◌, codes}
 use Rattle.std.specs.Prelude.{IsTrue, Option}
 use Rattle.std.specs.List.{flat_map}

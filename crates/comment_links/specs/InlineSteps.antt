@@ -1,5 +1,4 @@
--- Inlines that grow, and what the code looks for ahead. Only contracts of private functions and
--- proofs cite these.
+-- Cited by private clauses and proofs. Inlines that grow, and what the code looks for ahead.
 use Rattle.std.specs.Prelude.{◌≡◌, ℕ, ◌+◌, ◌≤◌, ◌<◌, Bool, ◌||◌, ◌==◌, List, [], ◌∷◌, ◌++◌, length}
 use Rattle.std.specs.Prelude.{take, drop, slice_index, Option, Some, None, true, false}
 use Rattle.std.specs.List.{prefix_len}

@@ -1,5 +1,5 @@
--- The links and the plain text that a text consists of (Go Doc Comments, "Links" and "Doc links").
--- Public clauses cite these.
+-- Cited by public clauses. The links and the plain text that a text consists of (Go Doc Comments,
+-- "Links" and "Doc links").
 use Rattle.std.specs.Prelude.{◌≡◌, ℕ, ◌+◌, ◌<◌, ◌≤◌, List, [], ◌∷◌, ◌++◌, length, drop, Option}
 use Rattle.comment_blocks.specs.declared.block.LinkDef.{LinkDef}
 use Rattle.comment_links.specs.declared.part.Inline.{Inline}

@@ -1,5 +1,5 @@
--- The plain program that finds the inlines of a text from the front to the end. Public clauses cite
--- it; a law says that what it finds are the inlines of the definition, and no others are.
+-- Cited by public clauses. The plain program that finds the inlines of a text from the front to the
+-- end. A law says that what it finds are the inlines of the definition, and no others are.
 use Rattle.std.specs.Prelude.{ℕ, zero, suc, ◌+◌, ◌-◌, Bool, not, ◌||◌, ◌&&◌, List, [], ◌∷◌, ◌++◌}
 use Rattle.std.specs.Prelude.{length, take, drop, map, if◌then◌else◌, ◌==◌, nat_eq, codes, Option}
 use Rattle.std.specs.Prelude.{Some, None}

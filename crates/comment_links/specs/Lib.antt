@@ -1,4 +1,6 @@
+-- Cited by public clauses.
 pub mod Inlines
 pub mod InlinesOf
-pub mod InlineSteps
 pub mod Marks
+-- Cited by private clauses and proofs.
+pub mod InlineSteps

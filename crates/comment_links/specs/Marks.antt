@@ -1,5 +1,5 @@
--- The marks of a text, which are its links and quotes (Go Doc Comments, "Links" and "Doc links").
--- Public clauses cite these.
+-- Cited by public clauses. The marks of a text, which are its links and quotes (Go Doc Comments,
+-- "Links" and "Doc links").
 use Rattle.std.specs.Prelude.{◌≡◌, ℕ, Bool, false, true, ◌||◌, not, List, [], ◌∷◌, ◌++◌, take}
 use Rattle.std.specs.Prelude.{map, if◌then◌else◌, ◌==◌, codes, Option, Some, None}
 use Rattle.std.specs.List.{last_or, list_all, list_any, prefix_len}

@@ -1,5 +1,5 @@
--- What constants are worth (The Go Programming Language Specification, "Constant declarations", "Iota",
--- "Declarations and scope"). Public clauses cite these.
+-- Cited by public clauses. What constants are worth (The Go Programming Language Specification,
+-- "Constant declarations", "Iota", "Declarations and scope").
 use Rattle.std.specs.Prelude.{◌≡◌, ℕ, zero, suc, List, [], ◌∷◌, codes, MatchBool, Some, ℤ, pos}
 use Rattle.std.specs.List.{filter}
 use Rattle.std.specs.Str.{bytes_eq}

@@ -1,6 +1,7 @@
--- Expressions of constants that are integers (The Go Programming Language Specification, "Expressions",
--- "Operators", "Operator precedence"): a tree, a printer from the tree to the texts of its tokens, a fact
--- that says which trees are valid, and what a tree is worth. Public clauses cite these.
+-- Cited by public clauses. Expressions of constants that are integers (The Go Programming Language
+-- Specification, "Expressions", "Operators", "Operator precedence"): a tree, a printer from the
+-- tree to the texts of its tokens, a fact that says which trees are valid, and what a tree is
+-- worth.
 use Rattle.std.specs.Prelude.{◌≡◌, ℕ, suc, ◌≤◌, max, Bool, true, false, ◌||◌, List, [], ◌∷◌, ◌++◌, codes, ◌==◌, IsTrue, Some, ℤ, pos}
 use Rattle.std.specs.Char.{is_ascii_digit}
 use Rattle.go_ast.specs.Characters.{single_quote}

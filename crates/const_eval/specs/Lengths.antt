@@ -1,5 +1,5 @@
--- Lengths of arrays (The Go Programming Language Specification, "Array types"): a constant expression that
--- is worth a number of at least 0, and else its text. Public clauses cite these.
+-- Cited by public clauses. Lengths of arrays (The Go Programming Language Specification, "Array
+-- types"): a constant expression that is worth a number of at least 0, and else its text.
 use Rattle.std.specs.Prelude.{◌≡◌, ℕ, ◌-◌, List, [], ◌∷◌, ◌++◌, map, take, drop, pos}
 use Rattle.std.specs.Str.Lossy.{utf8_lossy}
 use Rattle.go_ast.specs.Characters.{space}

@@ -1,5 +1,5 @@
--- What tokens are to an expression: brackets, operators and operands by their texts. Public clauses cite
--- these.
+-- Cited by public clauses. What tokens are to an expression: brackets, operators and operands by
+-- their texts.
 use Rattle.std.specs.Prelude.{ℕ, List, [], ◌∷◌, codes, if◌then◌else◌}
 use Rattle.std.specs.Str.{bytes_eq}
 use Rattle.const_eval.specs.declared.operator.Operator.TheVariants as o

@@ -1,11 +1,13 @@
+-- Cited by public clauses.
 pub mod Constants
 pub mod Expressions
 pub mod Lengths
 pub mod Lexemes
 pub mod Literals
+pub mod Operators
+-- Cited by private clauses and proofs.
 pub mod Machine
 pub mod Names
-pub mod Operators
 pub mod Progress
 pub mod Reading
 pub mod Values

@@ -1,5 +1,5 @@
--- What integer and rune literals are worth (The Go Programming Language Specification, "Integer literals"
--- and "Rune literals"). Public clauses cite these.
+-- Cited by public clauses. What integer and rune literals are worth (The Go Programming Language
+-- Specification, "Integer literals" and "Rune literals").
 use Rattle.std.specs.Prelude.{ℕ, ◌||◌, List, [], ◌∷◌, ◌++◌, map, if◌then◌else◌, ◌==◌}
 use Rattle.go_ast.specs.Characters.{single_quote}
 use Rattle.go_ast.specs.Numbers.{Digit, digit, separated, Integer, lone_zero, decimal, octal, based}

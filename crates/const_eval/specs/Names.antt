@@ -1,4 +1,4 @@
--- What names are worth, by the map of the constants' values. Only private clauses and proofs cite these.
+-- Cited by private clauses and proofs. What names are worth, by the map of the constants' values.
 use Rattle.std.specs.Prelude.{ℕ, List, Option, ℤ}
 use Rattle.std.specs.BTreeMap.{get_by_text}
 use Rattle.const_eval.specs.declared.names.Names.{Names}

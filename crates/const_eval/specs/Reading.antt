@@ -1,4 +1,5 @@
--- The values of literals by their bytes, from the left to the right. Only proofs and private clauses use it.
+-- Cited by private clauses and proofs. The values of literals by their bytes, from the left to the
+-- right.
 use Rattle.std.specs.Prelude.{ℕ, ◌+◌, ◌*◌, Bool, true, false, List, [], ◌∷◌, length, if◌then◌else◌, ◌==◌, Option, Some, None, option_map, ℤ, pos, codes}
 use Rattle.std.specs.Int.{is_in_range}
 use Rattle.std.specs.Char.{digit_value, is_digit, len_utf8}

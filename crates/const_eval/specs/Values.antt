@@ -1,4 +1,4 @@
--- A value with its levels, as the evaluation keeps them. Only private clauses and proofs cite these.
+-- Cited by private clauses and proofs. A value with its levels, as the evaluation keeps them.
 use Rattle.std.specs.Prelude.{ℕ, suc, max, ℤ, if◌then◌else◌, nat_lt, Option, Some, None}
 use Rattle.const_eval.specs.declared.operator.Operator.{Operator}
 use Rattle.const_eval.specs.declared.value.Value.{Value}

@@ -1,4 +1,5 @@
--- For proofs: how a corpus is stored as tuples, by which proofs tell corpora apart.
+-- Cited by private clauses and proofs. How a corpus is stored as tuples, by which proofs tell
+-- corpora apart.
 use Rattle.std.specs.Prelude.{List, refl}
 use Rattle.std.specs.Coded.{Coded, code_by, coded×, coded_list, coded_ℕ}
 use Rattle.go_ast.specs.contracts.config.Config as config_contract

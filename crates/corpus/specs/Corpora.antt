@@ -1,4 +1,4 @@
--- Cited by public contracts: the corpus of a set of sources, which are the packages that its accepted
+-- Cited by public clauses. The corpus of a set of sources, which are the packages that its accepted
 -- files make up, its faults, and the table of its identifiers. The project's own, over the
 -- definitions of outcomes, of packages (The Go Programming Language Specification, "Packages") and
 -- of hits.

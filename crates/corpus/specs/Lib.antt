@@ -1,4 +1,6 @@
-pub mod Codes
+-- Cited by public clauses.
 pub mod Corpora
 pub mod Snapshots
+-- Cited by private clauses and proofs.
+pub mod Codes
 pub mod Steps

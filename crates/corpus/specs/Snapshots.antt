@@ -1,4 +1,4 @@
--- Cited by public contracts: a set of sources with what it is read for, and the limits of a scan. The
+-- Cited by public clauses. A set of sources with what it is read for, and the limits of a scan. The
 -- project's own.
 use Rattle.std.specs.Prelude.{◌≡◌, ℕ, ◌<◌, ◌≤◌, length}
 use Rattle.std.specs.List.{sum_by}

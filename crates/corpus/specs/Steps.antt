@@ -1,5 +1,5 @@
--- Accepted files as the code borrows them, and the numbers of those beside packages. Only proofs and
--- contracts of private functions cite these.
+-- Cited by private clauses and proofs. Accepted files as the code borrows them, and the numbers of
+-- those beside packages.
 use Rattle.std.specs.Prelude.{◌≡◌, ℕ, ◌<◌, ◌≤◌, List, All, filter, length, map, not, IsUtf8}
 use Rattle.package_group.specs.declared.facts.Package.{Package}
 use Rattle.corpus.specs.declared.accepted.Accepted.{Accepted}

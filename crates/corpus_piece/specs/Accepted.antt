@@ -1,4 +1,4 @@
--- What is known of an accepted file. Only proofs cite this.
+-- Cited by private clauses and proofs. What is known of an accepted file.
 use Rattle.std.specs.Prelude.{◌≡◌, ℕ, ◌≤◌, List, length}
 use Rattle.go_ast.specs.declared.token.TheConstants.{MAX_SOURCE_BYTES}
 use Rattle.go_ast.specs.Files.{SpellsFile}

@@ -1,4 +1,6 @@
-pub mod Accepted
+-- Cited by public clauses.
 pub mod Outcomes
 pub mod Pieces
+-- Cited by private clauses and proofs.
+pub mod Accepted
 pub mod Refusals

@@ -1,5 +1,5 @@
--- What becomes of a file of a tree: the first that applies of its faults, of the reasons to pass it
--- over, and of its one file. Public clauses cite these. The project's own, over the definitions of
+-- Cited by public clauses. What becomes of a file of a tree: the first that applies of its faults,
+-- of the reasons to pass it over, and of its one file. The project's own, over the definitions of
 -- readings, build lines and declarations.
 use Rattle.std.specs.Prelude.{◌≡◌, ◌⊎◌, ℕ, ◌<◌, ◌≤◌, List, length}
 use Rattle.build_lines.specs.declared.admission.Admission.{Admission}

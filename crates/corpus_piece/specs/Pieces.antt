@@ -1,4 +1,4 @@
--- What contracts see of a piece. Public clauses cite these. The project's own.
+-- Cited by public clauses. What contracts see of a piece. The project's own.
 use Rattle.std.specs.Prelude.{ℕ, List, refl}
 use Rattle.std.specs.Coded.{Coded, code_by, coded×, coded_list, coded_ℕ}
 use Rattle.go_ast.specs.contracts.config.Config as config

@@ -1,4 +1,4 @@
--- The outcome of a file that a call on its source refused. Only private contracts cite this.
+-- Cited by private clauses and proofs. The outcome of a file that a call on its source refused.
 use Rattle.std.specs.Prelude.{◌≡◌}
 use Rattle.go_ast.specs.declared.fault.Refused.{Refused}
 use Rattle.go_ast.specs.declared.fault.Refused.TheVariants as refusals

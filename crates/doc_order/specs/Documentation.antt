@@ -1,5 +1,5 @@
--- What the documentation of a package lists, where and in which order (after Go's package go/doc).
--- Public clauses cite these.
+-- Cited by public clauses. What the documentation of a package lists, where and in which order
+-- (after Go's package go/doc).
 use Rattle.std.specs.Prelude.{◌≡◌, ◌↔◌, ℕ, ◌*◌, ◌/◌, Bool, true, false, ◌&&◌, not, List, [], ◌∷◌, length, map, filter, filter_map, position, Option, Some, None, is_some, option_and_then, nat_le, nat_eq, slice_get, if◌then◌else◌, All, AllPairs, Contains, IsTrue}
 use Rattle.std.specs.List.{list_all, list_any}
 use Rattle.std.specs.Option.{option_eq, option_map_or}

@@ -1,6 +1,6 @@
--- How the program fills the lists: a type has a slot in a sorted list of names, and the numbers of the
--- members are put at the ends of the lists, one after the other. The project's own; only proofs and
--- private clauses use these.
+-- Cited by private clauses and proofs. How the program fills the lists: a type has a slot in a
+-- sorted list of names, and the numbers of the members are put at the ends of the lists, one after
+-- the other. The project's own.
 use Rattle.std.specs.Prelude.{◌≡◌, ℕ, zero, suc, Bool, false, List, [], ◌∷◌, ◌++◌, position, Option, Some, None, slice_get, if◌then◌else◌}
 use Rattle.std.specs.Option.{option_map_or}
 use Rattle.std.specs.Str.{bytes_eq}

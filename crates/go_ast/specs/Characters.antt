@@ -1,4 +1,4 @@
--- Bytes that have a name, and what texts begin with. Public clauses cite these.
+-- Cited by public clauses. Bytes that have a name, and what texts begin with.
 use Rattle.std.specs.Prelude.{◌≡◌, ℕ, Bool, ◌||◌, List, [], ◌∷◌, ◌++◌, ◌==◌}
 
 abbrev pub tab : ℕ

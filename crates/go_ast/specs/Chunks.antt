@@ -1,5 +1,5 @@
--- The brackets of a file, and the chunks that semicolons outside brackets cut it into. Public
--- clauses cite these.
+-- Cited by public clauses. The brackets of a file, and the chunks that semicolons outside brackets
+-- cut it into.
 use Rattle.std.specs.Prelude.{◌≡◌, Bool, true, false, List, [], ◌∷◌, ◌++◌, Option, Some, None}
 use Rattle.std.specs.Prelude.{if◌then◌else◌, filter}
 use Rattle.std.specs.Option.{option_and_then}

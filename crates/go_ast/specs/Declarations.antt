@@ -1,7 +1,7 @@
--- What the chunks of a file declare (The Go Programming Language Specification, "Declarations and
--- scope"): a case for each alternative of the grammar, over exactly the words that it takes. The
--- brackets of a chunk nest, by their kinds, and so do those of each part that is cut from it outside
--- brackets. Public clauses cite these.
+-- Cited by public clauses. What the chunks of a file declare (The Go Programming Language
+-- Specification, "Declarations and scope"): a case for each alternative of the grammar, over
+-- exactly the words that it takes. The brackets of a chunk nest, by their kinds, and so do those of
+-- each part that is cut from it outside brackets.
 use Rattle.std.specs.Prelude.{◌≡◌, Bool, true, false, ◌||◌, List, [], ◌∷◌, ◌++◌, Option, Some, None}
 use Rattle.go_ast.specs.declared.declaration.Decl.{Decl}
 use Rattle.go_ast.specs.declared.declaration.Decl.TheVariants as decls

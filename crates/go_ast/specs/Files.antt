@@ -1,5 +1,5 @@
--- What the tokens of a file spell, and the fault of a file that they don't spell (The Go Programming
--- Language Specification, "Source file organization", "Package clause"). Public clauses cite these.
+-- Cited by public clauses. What the tokens of a file spell, and the fault of a file that they don't
+-- spell (The Go Programming Language Specification, "Source file organization", "Package clause").
 use Rattle.std.specs.Prelude.{◌≡◌, ℕ, ◌+◌, Bool, true, false, not, List, [], ◌∷◌, ◌++◌, length}
 use Rattle.std.specs.Prelude.{if◌then◌else◌, codes, ⊤}
 use Rattle.std.specs.List.{list_any}

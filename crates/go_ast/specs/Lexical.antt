@@ -1,7 +1,7 @@
--- The items of a source: white space, comments, and the spellings of tokens (The Go Programming
--- Language Specification, "Lexical elements"). Each form is a tree, a printer from the tree to its
--- bytes, and a fact that says which trees are valid and where they stand. Public clauses cite
--- these.
+-- Cited by public clauses. The items of a source: white space, comments, and the spellings of
+-- tokens (The Go Programming Language Specification, "Lexical elements"). Each form is a tree, a
+-- printer from the tree to its bytes, and a fact that says which trees are valid and where they
+-- stand.
 use Rattle.std.specs.Prelude.{◌≡◌, ℕ, ◌≤◌, ◌⊎◌, Bool, true, false, ◌&&◌, ◌||◌, not, List, [], ◌∷◌}
 use Rattle.std.specs.Prelude.{◌++◌, length, if◌then◌else◌, ◌==◌, nat_eq, IsTrue, All, MatchBool}
 use Rattle.std.specs.Prelude.{codes, ⊤}

@@ -1,3 +1,4 @@
+-- Cited by public clauses.
 pub mod Characters
 pub mod Chunks
 pub mod Cutting

@@ -1,5 +1,5 @@
--- What tokens are to the grammar of types and declarations: keywords, operators and brackets by
--- their spellings. Public clauses cite these.
+-- Cited by public clauses. What tokens are to the grammar of types and declarations: keywords,
+-- operators and brackets by their spellings.
 use Rattle.std.specs.Prelude.{ℕ, ◌+◌, ◌-◌, Bool, true, false, List, [], ◌∷◌, take, drop}
 use Rattle.std.specs.Prelude.{if◌then◌else◌, codes}
 use Rattle.std.specs.Str.{bytes_eq}

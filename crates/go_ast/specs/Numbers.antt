@@ -1,6 +1,6 @@
--- Numeric literals (The Go Programming Language Specification, "Integer literals", "Floating-point
--- literals" and "Imaginary literals"). Each form is a tree, a printer from the tree to its bytes,
--- and a test that says which trees are valid. Public clauses cite these.
+-- Cited by public clauses. Numeric literals (The Go Programming Language Specification, "Integer
+-- literals", "Floating-point literals" and "Imaginary literals"). Each form is a tree, a printer
+-- from the tree to its bytes, and a test that says which trees are valid.
 use Rattle.std.specs.Prelude.{ℕ, Bool, true, false, ◌&&◌, ◌||◌, List, [], ◌∷◌, ◌++◌, if◌then◌else◌}
 use Rattle.std.specs.Prelude.{◌==◌, nat_eq, codes}
 use Rattle.std.specs.List.{list_all, list_any}

@@ -1,5 +1,5 @@
--- Where a byte offset stands in a source, as an editor counts: lines from 1, and columns in bytes
--- from 1. Public clauses cite these.
+-- Cited by public clauses. Where a byte offset stands in a source, as an editor counts: lines from
+-- 1, and columns in bytes from 1.
 use Rattle.std.specs.Prelude.{ℕ, ◌+◌, List, [], ◌∷◌, take, if◌then◌else◌, ◌==◌, count_by}
 use Rattle.go_ast.specs.Characters.{newline}
 

@@ -1,6 +1,6 @@
--- The reading of a source: its items from the first byte to the last, and the tokens and comments
--- that they are (The Go Programming Language Specification, "Lexical elements" and "Semicolons"),
--- or its fault. Public clauses cite these.
+-- Cited by public clauses. The reading of a source: its items from the first byte to the last, and
+-- the tokens and comments that they are (The Go Programming Language Specification, "Lexical
+-- elements" and "Semicolons"), or its fault.
 use Rattle.std.specs.Prelude.{◌≡◌, ℕ, ◌+◌, ◌<◌, Bool, true, false, ◌&&◌, ◌||◌, List, [], ◌∷◌, ◌++◌}
 use Rattle.std.specs.Prelude.{length, drop, if◌then◌else◌, ◌==◌, codes, IsUtf8}
 use Rattle.std.specs.List.{list_any}

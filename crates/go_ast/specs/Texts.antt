@@ -1,6 +1,6 @@
--- What stands between the quotes of runes and texts (The Go Programming Language Specification,
--- "Rune literals" and "String literals"), and where the closing quote is missing. Public clauses
--- cite these.
+-- Cited by public clauses. What stands between the quotes of runes and texts (The Go Programming
+-- Language Specification, "Rune literals" and "String literals"), and where the closing quote is
+-- missing.
 use Rattle.std.specs.Prelude.{◌≡◌, ℕ, ◌+◌, ◌*◌, ◌⊎◌, Bool, true, false, ◌&&◌, ◌||◌, not, List, []}
 use Rattle.std.specs.Prelude.{◌∷◌, ◌++◌, length, if◌then◌else◌, ◌==◌, nat_eq, nat_lt, IsTrue, codes}
 use Rattle.std.specs.List.{list_all, list_any}

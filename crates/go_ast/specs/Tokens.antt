@@ -1,4 +1,4 @@
--- What tokens are and what they read in their source. Public clauses cite these.
+-- Cited by public clauses. What tokens are and what they read in their source.
 use Rattle.std.specs.Prelude.{◌≡◌, ℕ, ◌≤◌, ◌⊎◌, Bool, true, false, List, All, slice_range}
 use Rattle.go_ast.specs.declared.token.Token.{Token}
 use Rattle.go_ast.specs.declared.token.TokenKind.{TokenKind}

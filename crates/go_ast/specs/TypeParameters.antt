@@ -1,6 +1,6 @@
--- Type parameters, and which brackets after the name of a type declaration hold them rather than
--- the length of an array (The Go Programming Language Specification, "Type parameter
--- declarations"). Public clauses cite these.
+-- Cited by public clauses. Type parameters, and which brackets after the name of a type declaration
+-- hold them rather than the length of an array (The Go Programming Language Specification, "Type
+-- parameter declarations").
 use Rattle.std.specs.Prelude.{◌≡◌, Bool, true, false, ◌&&◌, ◌||◌, not, List, [], ◌∷◌}
 use Rattle.std.specs.List.{list_any}
 use Rattle.go_ast.specs.declared.declaration.TypeParam.{TypeParam}

@@ -1,5 +1,5 @@
--- What words spell a type (The Go Programming Language Specification, "Types"): a case for each
--- alternative of the grammar, over exactly the words that it takes. Public clauses cite these.
+-- Cited by public clauses. What words spell a type (The Go Programming Language Specification,
+-- "Types"): a case for each alternative of the grammar, over exactly the words that it takes.
 use Rattle.std.specs.Prelude.{◌≡◌, ◌≢◌, ℕ, zero, suc, Bool, true, false, List, [], ◌∷◌, Option}
 use Rattle.std.specs.Prelude.{Some, None, if◌then◌else◌}
 use Rattle.go_ast.specs.declared.tree.TypeExpr.{TypeExpr}

@@ -1,6 +1,6 @@
--- Identifiers and keywords (The Go Programming Language Specification, "Identifiers", "Keywords"
--- and "Exported identifiers"), over the characters of a text and its bytes. Public clauses cite
--- these.
+-- Cited by public clauses. Identifiers and keywords (The Go Programming Language Specification,
+-- "Identifiers", "Keywords" and "Exported identifiers"), over the characters of a text and its
+-- bytes.
 use Rattle.std.specs.Prelude.{ℕ, Bool, false, ◌&&◌, ◌||◌, not, List, [], ◌∷◌, codes}
 use Rattle.std.specs.List.{list_all, list_any}
 use Rattle.std.specs.Str.{bytes_eq, chars}

@@ -1,6 +1,6 @@
--- The letters and digits of Go (The Go Programming Language Specification, "Characters" and
--- "Letters and digits"), by the general categories of the Unicode Character Database. Public
--- clauses cite these.
+-- Cited by public clauses. The letters and digits of Go (The Go Programming Language Specification,
+-- "Characters" and "Letters and digits"), by the general categories of the Unicode Character
+-- Database.
 use Rattle.std.specs.Prelude.{ℕ, Bool, ◌||◌, ◌==◌}
 use Rattle.ucd_category.specs.GeneralCategory.{general_category, general_category_eq}
 use Rattle.ucd_category.specs.GeneralCategoryGroup.{in_group}

@@ -1,2 +1,3 @@
+-- Cited by public clauses.
 pub mod Identifiers
 pub mod Letters

@@ -1,4 +1,4 @@
--- What an answer says of the tokens of a file. Public clauses cite it.
+-- Cited by public clauses. What the result of a call says of the tokens of a file.
 use Rattle.std.specs.Prelude.{ℕ, List, ⊤}
 use Rattle.go_ast.specs.declared.fault.Refused.{Refused}
 use Rattle.go_ast.specs.declared.fault.Refused.TheVariants as refusals

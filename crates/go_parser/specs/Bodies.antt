@@ -1,4 +1,5 @@
--- The tokens that are read for a declaration: those before its body. Only proofs and private clauses use this.
+-- Cited by private clauses and proofs. The tokens that are read for a declaration: those before its
+-- body.
 use Rattle.std.specs.Prelude.{◌≡◌, ◌≢◌, List, [], ◌∷◌, Option, Some, None, ⊤}
 use Rattle.go_ast.specs.declared.token.TokenRange.{TokenRange}
 use Rattle.go_ast.specs.declared.word.Mark.TheVariants as m

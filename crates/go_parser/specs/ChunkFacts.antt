@@ -1,5 +1,5 @@
--- What is known of the chunks of a file, and of a bracket that doesn't match. Public clauses cite
--- these.
+-- Cited by public clauses. What is known of the chunks of a file, and of a bracket that doesn't
+-- match.
 use Rattle.std.specs.Prelude.{◌≡◌, ℕ, ◌<◌, ◌≤◌, true, false, List, [], ◌∷◌, ◌++◌, length, map, All}
 use Rattle.std.specs.Prelude.{Option, Some, None}
 use Rattle.go_ast.specs.declared.token.Token.{Token}

@@ -1,4 +1,4 @@
--- What has been made of the words so far. Only proofs and private clauses use these.
+-- Cited by private clauses and proofs. What has been made of the words so far.
 use Rattle.std.specs.Prelude.{◌≡◌, ℕ, ◌+◌, ◌-◌, ◌<◌, ◌≤◌, true, false, List, [], ◌∷◌, ◌++◌, length}
 use Rattle.std.specs.Prelude.{Option, Some, None, map, take, drop, All, filter}
 use Rattle.go_ast.specs.declared.word.Word.{Word}

@@ -1,4 +1,4 @@
--- What has been read of a file's chunks. Only proofs and private clauses use this.
+-- Cited by private clauses and proofs. What has been read of a file's chunks.
 use Rattle.std.specs.Prelude.{◌≡◌, ℕ, suc, ◌<◌, Bool, true, false, ◌&&◌, not, List, [], ◌∷◌, length, map}
 use Rattle.std.specs.Prelude.{take, Option, Some, None, if◌then◌else◌, codes}
 use Rattle.std.specs.Str.{bytes_eq}

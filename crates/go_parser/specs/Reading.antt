@@ -1,5 +1,5 @@
--- The declaration that a chunk's words spell, by one test after another: the plain program beside
--- the grammar. Only proofs and private clauses use it.
+-- Cited by private clauses and proofs. The declaration that a chunk's words spell, by one test
+-- after another: the plain program beside the grammar.
 use Rattle.std.specs.Prelude.{Bool, true, false, ◌&&◌, ◌||◌, List, [], ◌∷◌, ◌++◌, Option, Some, None}
 use Rattle.std.specs.Prelude.{if◌then◌else◌, drop}
 use Rattle.go_ast.specs.declared.declaration.Decl.{Decl}

@@ -1,4 +1,4 @@
--- What an answer says of a source. Public clauses cite these.
+-- Cited by public clauses. What the result of a call says of a source.
 use Rattle.std.specs.Prelude.{◌≡◌, ℕ, ◌≤◌, List, [], ◌∷◌, ⊤}
 use Rattle.go_ast.specs.declared.fault.Refused.{Refused}
 use Rattle.go_ast.specs.declared.fault.Refused.TheVariants as refusals

@@ -1,4 +1,4 @@
--- The digits of a base. Only contracts of private functions and proofs cite these.
+-- Cited by private clauses and proofs. The digits of a base.
 use Rattle.std.specs.Prelude.{ℕ, Bool}
 use Rattle.std.specs.Char.{is_ascii_digit, is_ascii_hexdigit}
 use Rattle.go_ast.specs.Numbers.{is_binary_digit, is_octal_digit}

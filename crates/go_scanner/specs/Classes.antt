@@ -1,4 +1,4 @@
--- What may begin with a byte. Only contracts of private functions and proofs cite these.
+-- Cited by private clauses and proofs. What may begin with a byte.
 use Rattle.std.specs.Prelude.{ℕ, Bool, ◌||◌, if◌then◌else◌, ◌==◌, nat_lt}
 use Rattle.std.specs.Char.{is_ascii_alphabetic, is_ascii_digit}
 use Rattle.go_ast.specs.Characters.{newline, tab, carriage_return, space, underscore, double_quote}

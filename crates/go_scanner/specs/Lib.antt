@@ -1,7 +1,9 @@
+-- Cited by public clauses.
 pub mod Answers
+pub mod LineIndex
+-- Cited by private clauses and proofs.
 pub mod Bases
 pub mod Classes
-pub mod LineIndex
 pub mod Marks
 pub mod NumberBytes
 pub mod Shapes

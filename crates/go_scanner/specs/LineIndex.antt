@@ -1,4 +1,4 @@
--- A position in a source by the offsets where its lines begin. Public clauses cite these.
+-- Cited by public clauses. A position in a source by the offsets where its lines begin.
 use Rattle.std.specs.Prelude.{◌≡◌, ℕ, ◌+◌, ◌<◌, ◌≤◌, List, length, slice_index}
 
 -- offsets where lines begin: the first line at 0, each one after those before it

@@ -1,4 +1,4 @@
--- How long the longest operator is, by its bytes. Only proofs and private clauses use this.
+-- Cited by private clauses and proofs. How long the longest operator is, by its bytes.
 use Rattle.std.specs.Prelude.{ℕ, Bool, ◌||◌, ◌&&◌, if◌then◌else◌, ◌==◌, nat_eq, codes}
 use Rattle.std.specs.List.{list_any}
 

@@ -1,5 +1,5 @@
--- Which kind of number some bytes are, found by splitting them at their marks. Only contracts of
--- private functions and proofs cite these.
+-- Cited by private clauses and proofs. Which kind of number some bytes are, found by splitting them
+-- at their marks.
 use Rattle.std.specs.Prelude.{ℕ, ◌+◌, Bool, true, false, ◌&&◌, ◌||◌, not, List, [], ◌∷◌, length}
 use Rattle.std.specs.Prelude.{take, drop, if◌then◌else◌, ◌==◌, nat_lt, Option, Some, None}
 use Rattle.std.specs.List.{list_any, position_or_len}

@@ -1,7 +1,6 @@
--- What stands at the front of some bytes, found by one test after another. This is the plain
--- program beside the definition of the items of a source: both give the same answers. Only
--- contracts of private functions and proofs cite these, but for `word_at`, which public clauses cite,
--- and what it is made of, which proofs of the crates above use.
+-- Cited by private clauses and proofs. What stands at the front of some bytes, found by one test
+-- after another: the plain program beside the definition of the items of a source, which gives the
+-- same. `word_at` is cited by public clauses too.
 use Rattle.std.specs.Prelude.{ℕ, ◌+◌, ◌-◌, Bool, true, false, ◌&&◌, not, List, [], ◌∷◌, length}
 use Rattle.std.specs.Prelude.{take, drop, if◌then◌else◌, ◌==◌, nat_eq, nat_lt, Option, Some, None}
 use Rattle.std.specs.Prelude.{option_map, slice_index, codes}

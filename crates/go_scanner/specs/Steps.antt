@@ -1,5 +1,4 @@
--- What an item of a shape adds to what was found before it. Only contracts of private functions and
--- proofs cite these.
+-- Cited by private clauses and proofs. What an item of a shape adds to what was found before it.
 use Rattle.std.specs.Prelude.{ℕ, ◌+◌, Bool, true, false, List, [], ◌∷◌, if◌then◌else◌, nat_eq}
 use Rattle.std.specs.Prelude.{Option, Some, None}
 use Rattle.std.specs.List.{starts_with}

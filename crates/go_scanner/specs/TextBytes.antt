@@ -1,5 +1,5 @@
--- How many bytes runes, texts and general comments have, and which of them are open. Only contracts
--- of private functions and proofs cite these.
+-- Cited by private clauses and proofs. How many bytes runes, texts and general comments have, and
+-- which of them are open.
 use Rattle.std.specs.Prelude.{ℕ, zero, suc, ◌+◌, Bool, true, false, ◌&&◌, ◌||◌, List, [], ◌∷◌}
 use Rattle.std.specs.Prelude.{length, take, if◌then◌else◌, ◌==◌, nat_eq, Option, Some, None}
 use Rattle.std.specs.Prelude.{option_map, codes}

@@ -1,4 +1,4 @@
--- Cited by public clauses: the configuration that the program reads a tree for. The project's own.
+-- Cited by public clauses. The configuration that the program reads a tree for. The project's own.
 use Rattle.std.specs.Prelude.{[], codes}
 use Rattle.go_ast.specs.declared.config.Config.{Config}
 

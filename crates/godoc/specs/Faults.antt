@@ -1,4 +1,4 @@
--- Cited by public clauses: what is said of a fault of a file. The wording is the project's own.
+-- Cited by public clauses. What is said of a fault of a file. The wording is the project's own.
 use Rattle.std.specs.Prelude.{ℕ, List, ◌++◌, codes, decimal}
 use Rattle.go_ast.specs.declared.fault.Fault.{Fault}
 use Rattle.go_ast.specs.declared.fault.Fault.TheVariants as faults

@@ -1,4 +1,4 @@
--- Cited by public clauses: the text of `find`, a line for each identifier with a name. The
+-- Cited by public clauses. The text of `find`, a line for each identifier with a name. The
 -- project's own.
 use Rattle.std.specs.Prelude.{◌≡◌, ℕ, List, ◌++◌, All, decimal, codes}
 use Rattle.std.specs.List.{flat_map}

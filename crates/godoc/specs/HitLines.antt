@@ -1,4 +1,4 @@
--- Cited by private contracts and by proofs: the lines of hits. The project's own.
+-- Cited by private clauses and proofs. The lines of hits. The project's own.
 use Rattle.std.specs.Prelude.{◌≡◌, ℕ, ◌<◌, ◌≤◌, List, [], ◌++◌, Option, Some, length, slice_get}
 use Rattle.std.specs.Option.{option_map_or}
 use Rattle.corpus.specs.Corpora.{Edition, bytes_in}

@@ -1,12 +1,14 @@
+-- Cited by public clauses.
 pub mod Defaults
 pub mod Faults
 pub mod Find
-pub mod HitLines
 pub mod Limits
 pub mod Outcome
 pub mod Pages
 pub mod Replies
 pub mod Serving
 pub mod Status
-pub mod Steps
 pub mod Words
+-- Cited by private clauses and proofs.
+pub mod HitLines
+pub mod Steps

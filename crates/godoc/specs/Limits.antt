@@ -1,4 +1,4 @@
--- Cited by public clauses: which trees are too large. The project's own.
+-- Cited by public clauses. Which trees are too large. The project's own.
 use Rattle.std.specs.Prelude.{◌≡◌, ℕ, ◌<◌, ◌≤◌, ◌⊎◌, List, [], ◌∷◌, ◌++◌, length, All, Option}
 use Rattle.corpus.specs.declared.snapshot.TheConstants.{MAX_FILES, MAX_SCAN_BYTES}
 use Rattle.corpus.specs.Snapshots.{bytes_of}

@@ -1,4 +1,4 @@
--- Cited by public clauses: what a run did to its tree and its output. The project's own.
+-- Cited by public clauses. What a run did to its tree and its output. The project's own.
 use Rattle.std.specs.Prelude.{◌≡◌, ℕ, ◌⊎◌, List, ◌++◌, Option, ⊤}
 use Rattle.corpus.specs.Snapshots.{IsWithinLimits, source_set}
 use Rattle.go_ast.specs.declared.config.Config.{Config}

@@ -1,4 +1,4 @@
--- Cited by public clauses: the pages, byte for byte. Their wording is the project's own; how a byte
+-- Cited by public clauses. The pages, byte for byte. Their wording is the project's own; how a byte
 -- is escaped in an address is RFC 3986, section 2.1.
 use Rattle.std.specs.Prelude.{ℕ, Bool, false, ◌||◌, ◌==◌, List, [], ◌∷◌, ◌++◌, codes, decimal, if◌then◌else◌, map, slice_get, unwrap_or}
 use Rattle.std.specs.Char.{is_ascii_alphanumeric}

@@ -1,4 +1,4 @@
--- Cited by public clauses: the reply to a request of an edition. Which page answers a target is the
+-- Cited by public clauses. The reply to a request of an edition. Which page answers a target is the
 -- project's own; that HEAD has the head of GET is RFC 9110, section 9.3.2, and a reply to a method
 -- that isn't allowed is section 15.5.6.
 use Rattle.std.specs.Prelude.{ℕ, Bool, List, [], ◌++◌, length, map, codes}

@@ -1,4 +1,4 @@
--- Cited by public clauses: what `answer` did. The project's own.
+-- Cited by public clauses. What `answer` did. The project's own.
 use Rattle.std.specs.Prelude.{◌≡◌, ◌≢◌, ℕ, ◌↔◌, Bool, IsTrue, List, [], ◌∷◌, replicate, Option, IfSome, ⊤}
 use Rattle.corpus.specs.Corpora.{Edition, IsEdition}
 use Rattle.go_ast.specs.declared.config.Config.{Config}

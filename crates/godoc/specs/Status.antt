@@ -1,4 +1,4 @@
--- Cited by public clauses: how the program shows the status with which a run ended. The project's
+-- Cited by public clauses. How the program shows the status with which a run ended. The project's
 -- own.
 use Rattle.std.specs.Prelude.{ℕ, List, Option, Some, None, codes}
 use Rattle.godoc.specs.declared.status.Status.{Status}

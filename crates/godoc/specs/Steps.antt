@@ -1,4 +1,4 @@
--- Cited by private contracts and by proofs: why a scan gave no corpus. The project's own.
+-- Cited by private clauses and proofs. Why a scan gave no corpus. The project's own.
 use Rattle.std.specs.Prelude.{ℕ, List, Option, ⊤}
 use Rattle.plain_data.specs.declared.errors.IoFail.{IoFail}
 use Rattle.plain_data.specs.declared.errors.IoFail.TheVariants as causes

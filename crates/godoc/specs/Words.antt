@@ -1,4 +1,4 @@
--- Cited by public clauses: the words of the command line. The project's own.
+-- Cited by public clauses. The words of the command line. The project's own.
 use Rattle.std.specs.Prelude.{ℕ, ◌&&◌, List, [], ◌∷◌, Option, Some, None, codes, drop, slice_index_or, ⊤, if◌then◌else◌}
 use Rattle.std.specs.Str.{bytes_eq}
 use Rattle.godoc.specs.declared.words.Command as commands

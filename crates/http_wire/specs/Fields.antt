@@ -1,5 +1,4 @@
--- What the fields of a request's head say of the connection and of a body. Public clauses cite
--- these.
+-- Cited by public clauses. What the fields of a request's head say of the connection and of a body.
 use Rattle.std.specs.Prelude.{ℕ, Bool, not, ◌&&◌, ◌==◌, List, [], ◌∷◌}
 use Rattle.std.specs.Prelude.{map, count_by, codes, if◌then◌else◌}
 use Rattle.std.specs.List.{list_any}

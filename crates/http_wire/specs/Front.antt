@@ -1,5 +1,4 @@
--- What the parser's offsets say of the front of a stream. Only private functions and proofs use
--- these.
+-- Cited by private clauses and proofs. What the parser's offsets say of the front of a stream.
 use Rattle.std.specs.Prelude.{ℕ, ◌≤◌, List, length, drop, map}
 use Rattle.httparse.specs.declared.spans.HeaderSpan.{HeaderSpan}
 use Rattle.httparse.specs.declared.spans.RequestSpans.{RequestSpans}

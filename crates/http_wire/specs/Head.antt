@@ -1,5 +1,5 @@
--- The request heads that are answered: those of the grammar of `httparse` (RFC 9112, sections 2 to
--- 5) that keep the rules below. Public clauses cite these. The limits are the project's own.
+-- Cited by public clauses. The request heads that are answered: those of the grammar of `httparse`
+-- (RFC 9112, sections 2 to 5) that keep the rules below. The limits are the project's own.
 use Rattle.std.specs.Prelude.{◌≡◌, ℕ, ◌≤◌, Bool, false, ◌||◌, ◌==◌}
 use Rattle.std.specs.Prelude.{List, length, codes, if◌then◌else◌}
 use Rattle.std.specs.List.{list_any}

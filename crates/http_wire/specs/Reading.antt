@@ -1,4 +1,4 @@
--- What a reader of heads answers of the bytes that it was fed. Public clauses cite these.
+-- Cited by public clauses. What a reader of heads gives of the bytes that it was fed.
 use Rattle.std.specs.Prelude.{◌≡◌, ℕ, Bool, List, [], ◌∷◌, ◌++◌}
 use Rattle.http_wire.specs.declared.request.Request.{Request}
 use Rattle.http_wire.specs.declared.heads.Next.{Next}

@@ -1,5 +1,5 @@
--- The heads of replies (RFC 9112, section 4). Public clauses cite these. The choice of fields is
--- the project's own.
+-- Cited by public clauses. The heads of replies (RFC 9112, section 4). The choice of fields is the
+-- project's own.
 use Rattle.std.specs.Prelude.{ℕ, Bool, true, false, List, [], ◌++◌, codes, decimal}
 use Rattle.http_wire.specs.declared.reply.Code.{Code}
 use Rattle.http_wire.specs.declared.reply.Code.TheVariants as statuses

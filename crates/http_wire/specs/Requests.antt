@@ -1,5 +1,5 @@
--- The requests in a stream of bytes (RFC 9112, section 2.2), by cases on what remains of it. Public
--- clauses cite these.
+-- Cited by public clauses. The requests in a stream of bytes (RFC 9112, section 2.2), by cases on
+-- what remains of it.
 use Rattle.std.specs.Prelude.{◌≡◌, ℕ, ◌≤◌, Bool, true, false, ◌&&◌, not, ◌==◌, IsTrue}
 use Rattle.std.specs.Prelude.{List, [], ◌∷◌, ◌++◌, length, if◌then◌else◌}
 use Rattle.std.specs.List.{list_any}

@@ -1,4 +1,4 @@
--- The identifiers of a file, each with its place and what it is there. Public clauses cite these.
+-- Cited by public clauses. The identifiers of a file, each with its place and what it is there.
 use Rattle.std.specs.Prelude.{◌≡◌, ◌<◌, ◌⊎◌, ℕ, List, ◌==◌, ◌&&◌, filter, map}
 use Rattle.std.specs.List.{find}
 use Rattle.std.specs.Option.{option_map_or}

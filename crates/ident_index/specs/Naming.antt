@@ -1,7 +1,7 @@
--- The names that the declarations of a file declare, each by the offset where it begins and its
--- kind: a case for each alternative of the grammar (The Go Programming Language Specification,
--- "Declarations and scope"). Names in expressions and bodies are in no tree. Public clauses cite
--- these.
+-- Cited by public clauses. The names that the declarations of a file declare, each by the offset
+-- where it begins and its kind: a case for each alternative of the grammar (The Go Programming
+-- Language Specification, "Declarations and scope"). Names in expressions and bodies are in no
+-- tree.
 use Rattle.std.specs.Prelude.{ℕ, List, [], ◌∷◌, ◌++◌, Option, Some, None, map}
 use Rattle.std.specs.List.{flat_map}
 use Rattle.go_ast.specs.declared.token.Span.{Span}

@@ -1,5 +1,5 @@
--- How far a pass over the tokens has come in the lines of a source and the names that it declares. The
--- project's own; only proofs and contracts of private functions cite these.
+-- Cited by private clauses and proofs. How far a pass over the tokens has come in the lines of a
+-- source and the names that it declares. The project's own.
 use Rattle.std.specs.Prelude.{ℕ, ◌<◌, ◌≤◌, List, length, slice_index, slice_index_or}
 use Rattle.ident_index.specs.Naming.{Name}
 

@@ -1,4 +1,4 @@
--- The identifiers of files by their names. Public clauses cite these.
+-- Cited by public clauses. The identifiers of files by their names.
 use Rattle.std.specs.Prelude.{◌≡◌, ◌↔◌, ℕ, List, [], drop, filter, map, All, AllPairs}
 use Rattle.std.specs.Prelude.{Contains, IsUtf8}
 use Rattle.std.specs.List.{find, flat_map}

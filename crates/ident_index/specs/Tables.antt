@@ -1,5 +1,5 @@
--- How a table of names is made: the hits are gathered by their names in a map, and each name takes
--- its hits from there. The project's own; only proofs and contracts of private functions cite these.
+-- Cited by private clauses and proofs. How a table of names is made: the hits are gathered by their
+-- names in a map, and each name takes its hits from there. The project's own.
 use Rattle.std.specs.Prelude.{◌≡◌, ℕ, ◌<◌, Bool, List, [], map, length, AllPairs, get_or, is_some}
 use Rattle.std.specs.Option.{option_map_or}
 use Rattle.std.specs.List.{list_any, sum_by}

@@ -1,5 +1,4 @@
--- What one call of a stream of the standard library came to. The contract of a private function
--- cites this, and no public clause.
+-- Cited by private clauses and proofs. What one call of a stream of the standard library came to.
 use Rattle.std.specs.Prelude.{◌≡◌, ◌≢◌, ℕ, Result, Ok, IsErrAnd}
 use Rattle.std.specs.IoError.{error_kind}
 use Rattle.std.specs.declared.io.Error.{Error}

@@ -1,4 +1,4 @@
--- Cited by public contracts. What the calls of a source or of a sink leave alone. The project's own.
+-- Cited by public clauses. What the calls of a source or of a sink leave alone. The project's own.
 use Rattle.std.specs.Prelude.{◌≡◌, ℕ, List, None}
 use Rattle.std.specs.declared.option.Option.{Option}
 

@@ -1,5 +1,5 @@
--- Cited by public contracts. Sources, sinks and links in memory: what they are, and what one call does. The
--- project's own.
+-- Cited by public clauses. Sources, sinks and links in memory: what they are, and what one call
+-- does. The project's own.
 use Rattle.std.specs.Prelude.{◌≡◌, ℕ, ◌+◌, ◌-◌, ◌<◌, ◌⊎◌, ◌↔◌, List, ◌++◌, length, take, drop, min, fold, filter, nat_lt, IsErr, IfOk, OnErr, Result, Option, Some}
 use Rattle.plain_data.specs.Counts.{Numbered, NextFails, called, one_more}
 

@@ -1,5 +1,5 @@
--- Cited by public contracts. What calls of a source and of a sink do to the bytes that remain and to those that
--- are held, where these are told. The project's own.
+-- Cited by public clauses. What calls of a source and of a sink do to the bytes that remain and to
+-- those that are held, where these are told. The project's own.
 use Rattle.std.specs.Prelude.{◌≡◌, ℕ, ◌<◌, ◌≤◌, ◌↔◌, List, [], ◌++◌, length, take, option_map, Result, IfOk, IfSome, OnErr}
 use Rattle.std.specs.declared.option.Option.{Option}
 

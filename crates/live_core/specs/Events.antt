@@ -1,4 +1,4 @@
--- The core machine, over lists of events. The project's own. Public clauses cite these definitions.
+-- Cited by public clauses. The core machine, over lists of events. The project's own.
 --
 -- The past of an event is the list of the legal events before it, the latest first.
 use Rattle.std.specs.Prelude.{ℕ, zero, suc, ◌+◌, Bool, true, false, ◌&&◌, Option, None, Some, List, [], ◌∷◌, ◌++◌, length, is_some, nat_lt, ◌==◌, if◌then◌else◌}

@@ -1,4 +1,6 @@
+-- Cited by public clauses.
 pub mod Events
 pub mod State
-pub mod Steps
 pub mod Trail
+-- Cited by private clauses and proofs.
+pub mod Steps

@@ -1,4 +1,4 @@
--- What contracts see of a core, and what it is after events. Public clauses cite these definitions.
+-- Cited by public clauses. What contracts see of a core, and what it is after events.
 use Rattle.std.specs.Prelude.{◌≡◌, ℕ, ◌<◌, Bool, Option, None, Some, List, length, slice_get}
 use Rattle.live_core.specs.declared.event.Event.{Event}
 use Rattle.live_core.specs.Events.{Scan, under_way, finished, published, last_of, is_among}

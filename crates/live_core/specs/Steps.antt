@@ -1,4 +1,4 @@
--- How a draft and a core go on. Only private functions and proofs use these definitions.
+-- Cited by private clauses and proofs. How a draft and a core go on.
 use Rattle.std.specs.Prelude.{◌≡◌, ℕ, ◌+◌, ◌≤◌, Bool, true, false, List, sum_by}
 use Rattle.live_core.specs.declared.event.Event.{Event}
 use Rattle.live_core.specs.declared.event.Answer.{Answer}

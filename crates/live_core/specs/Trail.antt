@@ -1,5 +1,5 @@
--- The trail of a reader's entries: a run of the core in which each edition is made whole before it
--- is published. The project's own. Public clauses cite these definitions.
+-- Cited by public clauses. The trail of a reader's entries: a run of the core in which each edition
+-- is made whole before it is published. The project's own.
 use Rattle.std.specs.Prelude.{ℕ, zero, suc, ◌-◌, ◌≤◌, List, [], ◌∷◌, ◌++◌, length, map, max, slice_index, All}
 use Rattle.std.specs.List.{flat_map}
 use Rattle.std.specs.List.Sorted.{IsNonDecreasing}

@@ -1,2 +1,4 @@
+-- Cited by public clauses.
 pub mod Scopes
+-- Cited by private clauses and proofs.
 pub mod Tables

@@ -1,4 +1,4 @@
--- Cited by public contracts: what the name of a type leads to (The Go Programming Language
+-- Cited by public clauses. What the name of a type leads to (The Go Programming Language
 -- Specification, "Declarations and scope", "Predeclared identifiers", "Import declarations" and
 -- "Qualified identifiers"). What is outside, and the local name of a plain import of a package that
 -- is not at hand, are the project's own.

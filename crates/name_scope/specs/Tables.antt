@@ -1,5 +1,5 @@
--- For the invariant of a `World`: the maps in which names are looked up. Only proofs and private
--- clauses use these.
+-- Cited by private clauses and proofs. The maps in which names are looked up, which the invariant
+-- of a `World` speaks of.
 use Rattle.std.specs.Prelude.{◌≡◌, ℕ, ◌<◌, ◌^◌, List, All, length, map}
 use Rattle.std.specs.BTreeMap.{BTreeMap, get_by_text}
 use Rattle.std.specs.List.{AllZip}

@@ -1,4 +1,4 @@
--- Cited by public contracts: the packages that files make up. The project's own, after The Go
+-- Cited by public clauses. The packages that files make up. The project's own, after The Go
 -- Programming Language Specification, "Packages", and the documentation of `go test` on test files
 -- and on names that end in `_test`.
 use Rattle.std.specs.Prelude.{◌≡◌, ℕ, ◌-◌, ◌==◌, Bool, ◌&&◌, ◌||◌, not, nat_lt, if◌then◌else◌, List, [], ◌∷◌, ◌++◌, length, take, map, filter, All, codes, nat_eq}

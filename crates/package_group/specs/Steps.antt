@@ -1,4 +1,5 @@
--- For proofs: files and packages as the maps of the code hold them, which go by the paths of packages.
+-- Cited by private clauses and proofs. Files and packages as the maps of the code hold them, which
+-- go by the paths of packages.
 use Rattle.std.specs.Prelude.{◌≡◌, ℕ, Bool, false, not, ◌&&◌, Option, Some, None, List, [], filter, map, string_bytes, All}
 use Rattle.std.specs.Borrow.{Bor}
 use Rattle.std.specs.List.{enumerate_from, list_any, slice_get}

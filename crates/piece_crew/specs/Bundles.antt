@@ -1,4 +1,4 @@
--- What workers bring back, and how it is put in order. For proofs: no public clause cites it.
+-- Cited by private clauses and proofs. What workers bring back, and how it is put in order.
 use Rattle.std.specs.Prelude.{◌≡◌, ℕ, ◌<◌, List, Option, Some, map, length, All, slice_set}
 use Rattle.std.specs.List.{fold}
 use Rattle.piece_crew.specs.Claims.{HasEnded, Word}

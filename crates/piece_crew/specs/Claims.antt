@@ -1,5 +1,5 @@
--- Seats at a claim word and the numbers that they claim, as public clauses speak of them.
--- The project's own.
+-- Cited by public clauses. Seats at a claim word and the numbers that they claim. The project's
+-- own.
 use Rattle.std.specs.Prelude.{◌≡◌, ℕ, ◌+◌, ◌<◌, ◌≤◌, List, [], ◌∷◌, ◌++◌, length, All, if◌then◌else◌, ◌==◌, nat_lt}
 use Rattle.atomic_table.specs.Seated.{TableId}
 

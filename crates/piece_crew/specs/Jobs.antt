@@ -1,4 +1,4 @@
--- Jobs and their outputs, as public clauses speak of them. The project's own.
+-- Cited by public clauses. Jobs and their outputs. The project's own.
 use Rattle.std.specs.Prelude.{◌≡◌, ℕ, List, slice_get, Some}
 
 -- The output at each place, counted from 0, is one that the job with that number gives.

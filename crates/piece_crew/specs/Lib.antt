@@ -1,4 +1,6 @@
-pub mod Bundles
+-- Cited by public clauses.
 pub mod Claims
 pub mod Jobs
+-- Cited by private clauses and proofs.
+pub mod Bundles
 pub mod Rule

@@ -1,5 +1,5 @@
--- The rule of a claim word, what each step at it tells, and what a seat is to contracts. No public clause
--- cites it.
+-- Cited by private clauses and proofs. The rule of a claim word, what each step at it tells, and
+-- what a seat is to contracts.
 use Rattle.std.specs.Prelude.{◌≡◌, ℕ, ◌+◌, ◌-◌, ◌<◌, ◌≤◌, List, [], ◌∷◌, ◌++◌, length, All, min}
 use mathlib.Core.Option.{some}
 use lib.ListN.{get_elem?}

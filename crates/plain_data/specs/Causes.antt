@@ -1,5 +1,5 @@
--- Cited by public contracts. What a count of faults says of an answer. A count stands still at the end of
--- its type, 2 ^ 64 - 1.
+-- Cited by public clauses. What a count of faults says of how a call ended. A count stands still at
+-- the end of its type, 2 ^ 64 - 1.
 use Rattle.std.specs.Prelude.{◌≡◌, ◌↔◌, ℕ, ◌+◌, ◌-◌, ◌^◌, ◌≤◌, Result, OnErr, OnOk, IsErrOf, min}
 use Rattle.std.specs.IoError.{error_kind}
 use Rattle.std.specs.declared.io.Error.{Error}

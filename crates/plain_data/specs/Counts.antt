@@ -1,4 +1,5 @@
--- Cited by public contracts. How counts go up, and which calls of an object in memory fail. The project's own.
+-- Cited by public clauses. How counts go up, and which calls of an object in memory fail. The
+-- project's own.
 use Rattle.std.specs.Prelude.{◌≡◌, ℕ, ◌+◌, ◌-◌, ◌^◌, List, ◌⊎◌, Contains, min}
 
 -- one more, up to the end of a 64-bit count, where it stands still

@@ -1,5 +1,5 @@
--- For proofs: the log that carries a history, and the rule under which it grows. No public clause
--- cites it. An entry of the log is an edition, or, as None, the closing entry.
+-- Cited by private clauses and proofs. The log that carries a history, and the rule under which it
+-- grows. An entry of the log is an edition, or, as None, the closing entry.
 use Rattle.std.specs.Prelude.{◌≡◌, ℕ, suc, ◌<◌, ◌≤◌, ◌==◌, true, false, List, [], ◌∷◌, ◌++◌, length, MatchBool, Option, Some, None}
 use Rattle.logbook.specs.Pages.{Cell, cell, Nib, nib, may_write, may_make, Step, View, Book, Named}
 

@@ -1,4 +1,6 @@
+-- Cited by public clauses.
 pub mod View
+-- Cited by private clauses and proofs.
 pub mod Chronicle
 pub mod Slots
 pub mod Rule

@@ -1,4 +1,4 @@
--- For proofs: what a publisher keeps. No public clause cites it.
+-- Cited by private clauses and proofs. What a publisher keeps.
 use Rattle.std.specs.Prelude.{◌≡◌, ℕ, Bool, true, false, [], ◌∷◌, ◌++◌, length, Option, None}
 use Rattle.logbook.specs.Pages.{Named}
 use Rattle.logbook.specs.declared.tokens.Seen.{Seen}

@@ -1,5 +1,5 @@
--- For proofs: what a reader knows of its history, by the logs that were reached. No public clause
--- cites it.
+-- Cited by private clauses and proofs. What a reader knows of its history, by the logs that were
+-- reached.
 use Rattle.std.specs.Prelude.{◌≡◌, ℕ, ◌≤◌, ◌⊎◌, true, [], ◌∷◌, ◌++◌, length, All, Option, None}
 use Rattle.std.specs.List.Sorted.{IsNonDecreasing}
 use mathlib.Core.List.{IsPrefix}

@@ -1,5 +1,4 @@
--- For proofs: the rule under which editions are published beside readers. No public clause cites
--- it.
+-- Cited by private clauses and proofs. The rule under which editions are published beside readers.
 use Rattle.std.specs.Prelude.{◌≡◌, ℕ, List, [], ◌∷◌, ◌++◌, length, true, false}
 use mathlib.Core.Option.{some}
 use lib.ListN.{get_elem?}

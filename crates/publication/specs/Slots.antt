@@ -1,4 +1,4 @@
--- For proofs: what is published. No public clause cites it.
+-- Cited by private clauses and proofs. What is published.
 use Rattle.std.specs.Prelude.{◌≡◌, length, Some}
 use Rattle.std.specs.Arc.{arc_value}
 use Rattle.publication.specs.View.{EndsWith}

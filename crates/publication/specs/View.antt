@@ -1,4 +1,4 @@
--- The history of a publisher, and what a reader of it has seen, which public clauses cite. The
+-- Cited by public clauses. The history of a publisher, and what a reader of it has seen. The
 -- project's own.
 use Rattle.std.specs.Prelude.{◌≡◌, ℕ, ◌≤◌, ◌⊎◌, Bool, false, IsTrue, List, [], ◌∷◌, ◌++◌, length, All, refl}
 use Rattle.std.specs.List.Sorted.{IsNonDecreasing}

@@ -1,2 +1,4 @@
-pub mod Rows
+-- Cited by public clauses.
 pub mod Targets
+-- Cited by private clauses and proofs.
+pub mod Rows

@@ -1,4 +1,4 @@
--- The table of routes as the router holds it. Only private functions and proofs use these.
+-- Cited by private clauses and proofs. The table of routes as the router holds it.
 use Rattle.std.specs.Prelude.{◌≡◌, ℕ, List, [], ◌∷◌, ◌++◌, codes, Result, Ok, Err, None}
 use Rattle.matchit.specs.declared.error.InsertError.{InsertError}
 use Rattle.matchit.specs.Order.{placed}

@@ -1,4 +1,4 @@
--- What a request asks for, by the table of routes. Public clauses cite these. The routes are the
+-- Cited by public clauses. What a request asks for, by the table of routes. The routes are the
 -- project's own.
 use Rattle.std.specs.Prelude.{ℕ, ◌-◌, ◌==◌, Bool, ◌&&◌, nat_eq, nat_lt, nat_le, if◌then◌else◌}
 use Rattle.std.specs.Prelude.{List, [], ◌∷◌, length, take, drop, codes, Option, Some, None}

@@ -1,5 +1,5 @@
--- Cited by private contracts and by proofs: what is known of a stream after some of it was read.
--- The project's own.
+-- Cited by private clauses and proofs. What is known of a stream after some of it was read. The
+-- project's own.
 use Rattle.std.specs.Prelude.{◌≡◌, ℕ, false, IsTrue, List, [], ◌++◌, Option, IfSome, Result, Ok, Err}
 use Rattle.http_wire.specs.declared.request.Request.{Request}
 use Rattle.http_wire.specs.declared.heads.Next.{Next}

@@ -1,4 +1,6 @@
-pub mod Incoming
+-- Cited by public clauses.
 pub mod Session
-pub mod Steps
 pub mod Text
+-- Cited by private clauses and proofs.
+pub mod Incoming
+pub mod Steps

@@ -1,4 +1,4 @@
--- Cited by public clauses: what one session did, by the bytes that were read and written in it and
+-- Cited by public clauses. What one session did, by the bytes that were read and written in it and
 -- the entries that it gained. The project's own.
 use Rattle.std.specs.Prelude.{◌≡◌, ◌≢◌, ℕ, ◌-◌, ◌≤◌, ◌⊎◌, ◌↔◌, Bool, IsTrue, List, [], ◌++◌, length, All, Option, IfSome, IsSome}
 use Rattle.http_wire.specs.declared.request.Request.{Request}

@@ -1,4 +1,4 @@
--- Cited by private contracts and by proofs: what one step of a session did. The project's own.
+-- Cited by private clauses and proofs. What one step of a session did. The project's own.
 use Rattle.std.specs.Prelude.{◌≡◌, ℕ, List, Option, Result, Ok, Err}
 use Rattle.link_io.specs.Streams.{Adds, AddsPart}
 use Rattle.session.specs.declared.session_end.SessionEnd.{SessionEnd}

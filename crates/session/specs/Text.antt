@@ -1,4 +1,4 @@
--- Cited by public clauses: the text that answers a connection, which is a reply for each request
+-- Cited by public clauses. The text that answers a connection, which is a reply for each request
 -- that is answered, in the order of the requests (RFC 9112, section 9.3.2), by whatever function
 -- makes the replies. The limit of requests on a connection and the bad reply are the project's own.
 use Rattle.std.specs.Prelude.{ℕ, zero, suc, ◌+◌, ◌==◌, nat_lt, Bool, true, false, ◌||◌, ◌&&◌, not, if◌then◌else◌, List, [], ◌∷◌, ◌++◌, length, take, slice_get, Option, None}

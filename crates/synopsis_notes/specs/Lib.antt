@@ -1,4 +1,6 @@
+-- Cited by public clauses.
 pub mod Notes
-pub mod SentenceSteps
 pub mod Sentences
 pub mod Synopses
+-- Cited by private clauses and proofs.
+pub mod SentenceSteps

@@ -1,5 +1,5 @@
--- What notes a comment's text holds: on a bug, and on what is deprecated (go/doc, "Note"; Go Doc
--- Comments, "Deprecations"). Public clauses cite these.
+-- Cited by public clauses. What notes a comment's text holds: on a bug, and on what is deprecated
+-- (go/doc, "Note"; Go Doc Comments, "Deprecations").
 use Rattle.std.specs.Prelude.{ℕ, ◌-◌, Bool, false, ◌||◌, not, List, [], ◌∷◌, Option, Some, None}
 use Rattle.std.specs.Prelude.{if◌then◌else◌, ◌==◌, nat_eq, codes, take, drop, length}
 use Rattle.std.specs.List.{list_any, prefix_len, starts_with, suffix_len}

@@ -1,4 +1,4 @@
--- What a character adds to a sentence. Only contracts of private functions and proofs cite these.
+-- Cited by private clauses and proofs. What a character adds to a sentence.
 use Rattle.std.specs.Prelude.{◌≡◌, ℕ, Bool, true, false, List, [], ◌∷◌, ◌++◌, Some}
 use Rattle.std.specs.Prelude.{MatchBool, encode_utf8, encode_utf8_all, string_bytes}
 use Rattle.synopsis_notes.specs.declared.sentence.Sentence.{Sentence}

@@ -1,4 +1,4 @@
--- What a first sentence is, told by the places where one can end. Public clauses cite these: a law
+-- Cited by public clauses. What a first sentence is, told by the places where one can end. A law
 -- says that a text has one, and that it is the one of the definition.
 use Rattle.std.specs.Prelude.{◌≡◌, ℕ, ◌+◌, ◌≤◌, ◌⊎◌, Bool, List, [], ◌∷◌, ◌++◌, Option, Some, None}
 use Rattle.std.specs.Prelude.{IsTrue, length}

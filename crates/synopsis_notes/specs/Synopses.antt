@@ -1,5 +1,5 @@
--- The synopsis of a comment's text: the first sentence of its first paragraph (go/doc,
--- "Package.Synopsis"). Public clauses cite these.
+-- Cited by public clauses. The synopsis of a comment's text: the first sentence of its first
+-- paragraph (go/doc, "Package.Synopsis").
 use Rattle.std.specs.Prelude.{ℕ, Bool, true, false, ◌&&◌, ◌||◌, not, List, [], ◌∷◌, Option, Some}
 use Rattle.std.specs.Prelude.{None, if◌then◌else◌, ◌==◌, codes, encode_utf8_all}
 use Rattle.std.specs.List.{starts_with}

@@ -1,4 +1,5 @@
--- Cited by public contracts. HTML escapes (the HTML standard, "Character references"). The choice of these five is the project's own.
+-- Cited by public clauses. HTML escapes (the HTML standard, "Character references"). The choice of
+-- these five is the project's own.
 use Rattle.std.specs.Prelude.{ℕ, List, [], ◌∷◌, codes, if◌then◌else◌, ◌==◌}
 use Rattle.std.specs.List.{flat_map}
 

@@ -1,1 +1,2 @@
+-- Cited by public clauses.
 pub mod Escape

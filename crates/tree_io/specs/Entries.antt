@@ -1,5 +1,5 @@
--- Cited by public contracts. What reading the files of a scan one after another gives. The
--- project's own.
+-- Cited by public clauses. What reading the files of a scan one after another gives. The project's
+-- own.
 use Rattle.std.specs.Prelude.{◌≡◌, ℕ, ◌≤◌, List, length, Option, All, IfSome, ⊤}
 use Rattle.plain_data.specs.Causes.{RoseBy}
 use Rattle.tree_io.specs.Path.{paths_of}

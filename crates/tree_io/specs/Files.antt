@@ -1,4 +1,5 @@
--- For proofs: the maps in which a `MemTree` keeps its versions, seen as contents.
+-- Cited by private clauses and proofs. The maps in which a `MemTree` keeps its versions, seen as
+-- contents.
 use Rattle.std.specs.Prelude.{ℕ, ◌≤◌, List, All, map, string_bytes}
 use Rattle.std.specs.List.{range_with_len}
 use Rattle.std.specs.BTreeMap.{BTreeMap}

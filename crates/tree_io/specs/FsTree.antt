@@ -1,4 +1,4 @@
--- Cited by public clauses: what contracts see of an `FsTree`. This is the project's own.
+-- Cited by public clauses. What contracts see of an `FsTree`. This is the project's own.
 use Rattle.std.specs.Prelude.{ℕ, List}
 use Rattle.plain_data.specs.Counts.{one_more}
 

@@ -1,4 +1,4 @@
--- Cited by public clauses: what contracts see of a `MemTree`, and how its calls change it. This is
+-- Cited by public clauses. What contracts see of a `MemTree`, and how its calls change it. This is
 -- the project's own.
 use Rattle.std.specs.Prelude.{◌≡◌, ℕ, ◌-◌, List, [], ◌∷◌, ◌++◌, length, min, slice_index_or}
 use Rattle.plain_data.specs.Counts.{Numbered, called, one_more}

@@ -1,4 +1,4 @@
--- Cited by public contracts. Which paths belong to a tree of Go sources, and in what order they
+-- Cited by public clauses. Which paths belong to a tree of Go sources, and in what order they
 -- stand. The rule is the project's own.
 use Rattle.std.specs.Prelude.{◌≢◌, ℕ, ◌-◌, ◌<◌, ◌≤◌, ◌==◌, List, [], ◌∷◌, ◌++◌, length, take, map, All, IsTrue, codes, slice_index, nat_eq}
 use Rattle.std.specs.List.{slice_split, ends_with}

@@ -1,4 +1,4 @@
--- Cited by public clauses: the scans that a tree tells, each as the contents that it found. This is
+-- Cited by public clauses. The scans that a tree tells, each as the contents that it found. This is
 -- the project's own.
 use Rattle.std.specs.Prelude.{◌≡◌, ℕ, ◌-◌, List, [], ◌∷◌, ◌++◌, length, Option, Some, None, IfSome, IsSome, slice_index_or}
 use Rattle.std.specs.Option.{ForSome}

@@ -1,4 +1,4 @@
--- Cited by public clauses: the contents of a tree, the sources that a scan of them gives, and what
+-- Cited by public clauses. The contents of a tree, the sources that a scan of them gives, and what
 -- ties the two. All this is the project's own.
 use Rattle.std.specs.Prelude.{◌≡◌, ℕ, ◌≤◌, Bool, true, false, List, length, Option, All, IsSomeAnd, ◌⊎◌, count_by, if◌then◌else◌, nat_lt}
 use Rattle.std.specs.Map.{lookup}

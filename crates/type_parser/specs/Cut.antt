@@ -1,5 +1,5 @@
--- Where brackets end and lists are cut, as the parser finds it. The clauses of `Words` cite these,
--- and private ones.
+-- Cited by public clauses. Where brackets end and lists are cut, as the parser finds it: the public
+-- clauses are those of `Words`.
 use Rattle.std.specs.Prelude.{ℕ, suc, ◌&&◌, List, [], ◌∷◌, take, drop, if◌then◌else◌, ◌==◌}
 use Rattle.std.specs.Prelude.{Option, Some, None}
 use Rattle.go_ast.specs.declared.word.Word.{Word}

@@ -1,5 +1,4 @@
--- Entries of parameters, read from the last to the first. Only proofs and private clauses use
--- these.
+-- Cited by private clauses and proofs. Entries of parameters, read from the last to the first.
 use Rattle.std.specs.Prelude.{Bool, true, false, List, [], ◌∷◌, ◌++◌, Option, Some, None}
 use Rattle.std.specs.Prelude.{if◌then◌else◌}
 use Rattle.go_ast.specs.declared.tree.TypeExpr.{TypeExpr}

@@ -1,4 +1,4 @@
--- Words with how far the bracket that closes them is. Only proofs and private clauses use these.
+-- Cited by private clauses and proofs. Words with how far the bracket that closes them is.
 use Rattle.std.specs.Prelude.{◌≡◌, ℕ, suc, min, List, []}
 use Rattle.std.specs.Prelude.{◌∷◌, length, drop, if◌then◌else◌}
 use Rattle.std.specs.Prelude.{⊤}

@@ -1,4 +1,5 @@
--- The members of structs and interfaces, as the parser reads them. Only private clauses use these.
+-- Cited by private clauses and proofs. The members of structs and interfaces, as the parser reads
+-- them.
 use Rattle.std.specs.Prelude.{Bool, false, List, [], ◌∷◌, Option}
 use Rattle.go_ast.specs.declared.tree.TypeExpr.{TypeExpr}
 use Rattle.go_ast.specs.declared.tree.Field.{Field}

@@ -1,4 +1,4 @@
--- A function value that reads types of at most so many levels. Only private clauses use it.
+-- Cited by private clauses and proofs. A function value that reads types of at most so many levels.
 use Rattle.std.specs.Prelude.{◌≡◌, ℕ, List, Option, Result, IfOk}
 use Rattle.std.specs.declared.alloc.Global.{Global}
 use denote.Ref.{Bor}

@@ -1,6 +1,6 @@
--- The type that words spell, by one test after another: the plain program beside the grammar. The
--- public clauses named `read` cite it, so that a crate above can read declarations by plain
--- programs of its own.
+-- Cited by public clauses. The type that words spell, by one test after another: the plain program
+-- beside the grammar. The public clauses named `read` cite it, so that a crate above can read
+-- declarations by plain programs of its own.
 use Rattle.std.specs.Prelude.{ℕ, zero, suc, Bool, true, false, List, [], ◌∷◌, ◌++◌, Option}
 use Rattle.std.specs.Prelude.{Some, None, is_some, not, ◌&&◌, if◌then◌else◌}
 use Rattle.go_ast.specs.declared.tree.TypeExpr.{TypeExpr}

@@ -1,5 +1,5 @@
--- Entries of type parameters, each read with the one after it. The public clauses named `read` cite
--- these.
+-- Cited by public clauses. Entries of type parameters, each read with the one after it: the public
+-- clauses are those named `read`.
 use Rattle.std.specs.Prelude.{List, [], ◌∷◌, Option, Some, None}
 use Rattle.std.specs.Prelude.{if◌then◌else◌, slice_get}
 use Rattle.go_ast.specs.declared.declaration.TypeParam.{TypeParam}
