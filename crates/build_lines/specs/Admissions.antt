@@ -13,18 +13,18 @@ use Rattle.build_lines.specs.Expressions.{Expression, IsMalformed, Spells, value
 use Rattle.build_lines.specs.FileNames.{name_admits}
 use Rattle.build_lines.specs.Tags.{holds}
 
--- the answer by whether the name lets the file in, and then whether its build line does
+-- what is said by whether the name lets the file in, and then whether its build line does
 abbrev pub judged : Bool → Bool → Admission
 judged false by_line = Ignored ByName
 judged true false = Ignored ByLine
 judged true true = Admitted
 
--- the line of a comment is the answer
+-- what is said is the line of a comment
 abbrev pub IsBadLine : List ℕ → Comment → Admission → Type 0
 IsBadLine bytes comment admission = admission ≡ BadBuildLine (line_of bytes comment.span.start)
 
--- the answer by the build lines: a first one that spells no expression comes first, then a second
--- one, then the name, then the value of the expression
+-- what is said by the build lines: a first one that spells no expression comes first, then a
+-- second one, then the name, then the value of the expression
 abbrev pub IsJudgedBy : List ℕ → Config → Bool → List Comment → Admission → Type 0
 IsJudgedBy bytes config by_name [] admission = admission ≡ judged by_name true
 IsJudgedBy bytes config by_name (line ∷ []) admission =

@@ -13,7 +13,7 @@ use crate::file_name::name_admits;
 use go_ast::{Comment, Config, Mem, Scanned};
 use std::alloc::Global;
 
-/// The answer by whether the name lets a file in, and then whether its build line does.
+/// What is said of a file by whether its name lets it in, and then whether its build line does.
 fn judged(by_name: bool, by_line: bool) -> Admission
     ensures { result ≡ judged by_name by_line }
 {
@@ -26,7 +26,7 @@ fn judged(by_name: bool, by_line: bool) -> Admission
     }
 }
 
-/// The answer that a build line is malformed or a second one.
+/// That a build line is malformed or a second one.
 fn bad_line(source: &[u8], line: &Comment) -> Admission
     requires small { length source.now ≤ MAX_SOURCE_BYTES }
     requires inside { IsInside (length source.now) line.now }
@@ -35,7 +35,7 @@ fn bad_line(source: &[u8], line: &Comment) -> Admission
     Admission::BadBuildLine(line_of(source, line.span.start))
 }
 
-/// The answer by the build lines of a file, and by whether its name lets it in.
+/// What is said of a file by its build lines, and by whether its name lets it in.
 fn judge(
     alloc: Global,
     source: &[u8],

@@ -1,4 +1,4 @@
-//! Files for which the answer is told by the rules of build constraints.
+//! Files of which the rules of build constraints tell what is said.
 
 use crate::Admission::{Admitted, BadBuildLine, Ignored};
 use crate::Why::{ByLine, ByName};

@@ -76,7 +76,7 @@ fn text_of(html: Text) -> Txt
 ///
 /// # Errors
 ///
-/// `NoMemory` where an allocation is refused, or the names answer it.
+/// `NoMemory` where an allocation is refused, or the names give it.
 pub fn html<N: Names>(alloc: Global, blocks: &[Block], names: &N) -> Mem<Txt>
     ensures value { IfOk result (λ html. html ≡ html_of blocks.now (N.address_of names.now)) }
     ensures markup { IfOk result (IsMarkup blocks.now (N.address_of names.now)) }

@@ -100,8 +100,8 @@ quote_at (a ∷ b ∷ after) =
 quote_at _ = None
 
 module _ (links : List LinkDef) (address_of : List ℕ → Option (List ℕ)) where
-  -- the mark at the front of a text, by what stands before it: what it becomes and its length. Links
-  -- in brackets begin with "[", the schemes with "h" or "f"
+  -- the mark at the front of a text, by what stands before it: what it becomes and its length.
+  -- Links in brackets begin with "[", the schemes with "h" or "f"
   unfoldable pub found_at : List ℕ → List ℕ → Option Found
   found_at before [] = None
   found_at before (b ∷ tail) =

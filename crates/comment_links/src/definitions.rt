@@ -110,7 +110,7 @@ impl<'a> Definitions<'a> {
     ///
     /// # Errors
     ///
-    /// `NoMemory` where an allocation is refused, or the names answer it.
+    /// `NoMemory` where an allocation is refused, or the names give it.
     pub fn inlines<N: Names>(&self, alloc: Global, text: &str, names: &N) -> Mem<Seq<Inline>>
         ensures { IfOk result
             (λ inlines. inlines ≡ inlines_of self.now (N.address_of names.now) text.now) }

@@ -10,8 +10,8 @@ pub trait Names {
     // The address of a body, where it has one.
     ghost address_of: { Self → List ℕ → Option (List ℕ) };
 
-    /// The address of a link's body, without the star that a body may begin with. `None` is
-    /// answered exactly where the body has no address.
+    /// The address of a link's body, without the star that a body may begin with; `None` exactly
+    /// where the body has no address.
     ///
     /// # Errors
     ///

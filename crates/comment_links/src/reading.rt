@@ -122,7 +122,7 @@ pub fn inlines<N: Names>(
 ///
 /// # Errors
 ///
-/// `NoMemory` where an allocation is refused, or the names answer it.
+/// `NoMemory` where an allocation is refused, or the names give it.
 pub fn inline<N: Names>(alloc: Global, text: &str, links: &[LinkDef], names: &N) -> Mem<Seq<Inline>>
     ensures { IfOk result
         (λ inlines. inlines ≡ inlines_of links.now (N.address_of names.now) text.now) }

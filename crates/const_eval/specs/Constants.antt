@@ -16,8 +16,8 @@ in_place iota names text number = MatchBool (bytes_eq text (codes "iota")) (numb
 abbrev pub IsOnly : List ConstFact → List ℕ → ConstFact → Type 0
 IsOnly facts name fact = filter (λ other. bytes_eq name other.name) facts ≡ fact ∷ []
 
--- within so many steps the only constant with this name is worth a number: its run is, where names are worth
--- what they are within one step fewer
+-- within so many steps the only constant with this name is worth a number: its run is, where names
+-- are worth what they are within one step fewer
 abbrev pub IsConstantWithin : List ConstFact → ℕ → List ℕ → ℤ → Type 0
 IsConstantWithin facts zero name number = ⊥
 IsConstantWithin facts (suc steps) name number = (fact : ConstFact) × IsOnly facts name fact

@@ -27,8 +27,8 @@ print (parenthesized inner) = codes "(" ∷ print inner ++ codes ")" ∷ []
 print (unary operator inner) = print_operator operator ∷ print inner
 print (binary operator left right) = print left ++ print_operator operator ∷ print right
 
--- what a tree is: an operand ("UnaryExpr"), operands between the operators that bind tighter, or these
--- between the others
+-- what a tree is: an operand ("UnaryExpr"), operands between the operators that bind tighter, or
+-- these between the others
 pub data Part : Type 0 where
   an_operand a_product a_sum : Part
 
@@ -45,7 +45,8 @@ pub data IsExpression : Part → Expression → Type 0 where
   added : {operator : Operator} {left right : Expression} → is_multiplying operator ≡ false
       → IsExpression a_sum left → IsExpression a_product right → IsExpression a_sum (binary operator left right)
 
--- a literal or a name is one level, and each bracket or operator is one more than its deepest operand
+-- a literal or a name is one level, and each bracket or operator is one more than its deepest
+-- operand
 abbrev pub levels : Expression → ℕ
 levels (operand text) = 1
 levels (parenthesized inner) = suc (levels inner)
@@ -57,8 +58,8 @@ abbrev pub begins_literal : List ℕ → Bool
 begins_literal [] = false
 begins_literal (b ∷ bytes) = is_ascii_digit b || b == single_quote
 
--- what an operand is worth, where this says what names are worth: an integer or a rune its value, and other
--- texts what they name. Other literals are worth nothing
+-- what an operand is worth, where this says what names are worth: an integer or a rune its value,
+-- and other texts what they name. Other literals are worth nothing
 pub data IsOperandWorth (names : List ℕ → ℤ → Type 0) : List ℕ → ℤ → Type 0 where
   an_integer : (literal : Integer) → IsTrue (is_integer literal) → (number : ℤ)
       → within (pos (integer_value literal)) ≡ Some number → IsOperandWorth names (print_integer literal) number

@@ -29,8 +29,8 @@ abbrev pub joined : List (List ℕ) → List ℕ
 joined [] = []
 joined (text ∷ texts) = text ++ spaced texts
 
--- the length that these texts are where the constants give names their numbers; bytes that are no UTF-8 stand
--- as U+FFFD in its text
+-- the length that these texts are where the constants give names their numbers; bytes that are no
+-- UTF-8 stand as U+FFFD in its text
 abbrev pub IsLength : List (List ℕ) → Constants → Length → Type 0
 IsLength texts constants (lengths.Known n) = HasValue (Gives constants) texts (pos n)
 IsLength texts constants (lengths.AsText text) =

@@ -64,7 +64,8 @@ shifted shift x (negsuc n) = None
 abbrev pub times_power : ℤ → ℕ → ℤ
 times_power x count = x *ℤ pos (2 ^ count)
 
--- quotients are cut towards 0, and a remainder has the sign of x; the bits are those of two's complement
+-- quotients are cut towards 0, and a remainder has the sign of x; the bits are those of two's
+-- complement
 abbrev pub binary_value : Operator → ℤ → ℤ → Option ℤ
 binary_value o.Add x y = within (x +ℤ y)
 binary_value o.Subtract x y = within (x -ℤ y)

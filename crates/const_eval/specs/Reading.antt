@@ -40,7 +40,8 @@ read_escape (mark ∷ []) = if is_escape_mark single_quote mark then Some (escap
 read_escape (b ∷ c ∷ bytes) = if is_octal_escape (b ∷ c ∷ bytes) then Some (value_of 8 (b ∷ c ∷ bytes))
     else (if is_hexadecimal_escape b (c ∷ bytes) then Some (value_of 16 (c ∷ bytes)) else None)
 
--- the first of the characters of a text of so many bytes, where it is the only one and stands for itself
+-- the first of the characters of a text of so many bytes, where it is the only one and stands for
+-- itself
 abbrev pub only_character : ℕ → List ℕ → Option ℕ
 only_character size [] = None
 only_character size (c ∷ cs) = if is_unquoted single_quote c then (if len_utf8 c == size then Some c else None) else None

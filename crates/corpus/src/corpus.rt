@@ -14,9 +14,9 @@ use package_group::Package;
 use std::marker::Model;
 use tree_io::Entry;
 
-/// All that is computed from a set of sources, which nothing changes: the files with their outcomes,
-/// the packages, the faults and the table of identifiers. Contracts see it as the set of sources
-/// with the tables that the definition gives for it.
+/// All that is computed from a set of sources, which nothing changes: the files with their
+/// outcomes, the packages, the faults and the table of identifiers. Contracts see it as the set of
+/// sources with the tables that the definition gives for it.
 #[derive(Drop)]
 pub struct Corpus {
     snapshot: Snapshot,
@@ -124,8 +124,8 @@ impl Corpus {
         &self.postings
     }
 
-    /// The place of the package with a path, or `None` where no package has it. It looks by halving,
-    /// and takes no memory.
+    /// The place of the package with a path, or `None` where no package has it. It looks by
+    /// halving, and takes no memory.
     pub fn find_package(&self, path: &str) -> Option<u32>
         ensures { result ≡ position (bytes_eq path.now)
             (map (λ p. p.path) self.now.tables.packages) }
@@ -149,8 +149,8 @@ impl Corpus {
     }
 }
 
-/// The tables of a corpus are those of its own sources, which are those of a scan within its limits.
-/// The call does nothing.
+/// The tables of a corpus are those of its own sources, which are those of a scan within its
+/// limits. The call does nothing.
 pub fn own_tables(corpus: &Corpus)
     ensures { IsEdition corpus.now }
 {

@@ -1,8 +1,8 @@
 //! All that is computed from a whole scan of a tree, as one value that nothing changes and that is
 //! a function of the scan alone.
 //!
-//! `specs/Corpora.antt` says what the corpus of a set of sources is; [`assemble`] makes it, and each
-//! [`Corpus`] keeps that it is that of its own sources.
+//! `specs/Corpora.antt` says what the corpus of a set of sources is; [`assemble`] makes it, and
+//! each [`Corpus`] keeps that it is that of its own sources.
 #![tactic(auto)]
 
 mod accepted;

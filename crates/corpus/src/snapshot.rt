@@ -27,9 +27,9 @@ pub enum TooLarge {
     NoMemory,
 }
 
-/// A whole scan of a tree within its limits, seen by contracts as a set of sources: the paths of the
-/// files, each with what the scan has of it, and the configuration that they are read for. A file's
-/// number is its place, counted from 0.
+/// A whole scan of a tree within its limits, seen by contracts as a set of sources: the paths of
+/// the files, each with what the scan has of it, and the configuration that they are read for. A
+/// file's number is its place, counted from 0.
 #[derive(Drop)]
 pub struct Snapshot {
     config: Config,
@@ -47,8 +47,8 @@ impl Model for Snapshot {
 }
 
 impl Snapshot {
-    /// The snapshot of these files, whose paths belong and rise strictly by their bytes. It takes no
-    /// memory.
+    /// The snapshot of these files, whose paths belong and rise strictly by their bytes. It takes
+    /// no memory.
     ///
     /// # Errors
     /// `TooManyFiles` with the number of the files where that is more than [`MAX_FILES`]; else

@@ -123,8 +123,8 @@ impl Lists {
         }
     }
 
-    /// Puts the member with a number where it stands, if it is shown. The names of the types in their
-    /// slots are sorted.
+    /// Puts the member with a number where it stands, if it is shown. The names of the types in
+    /// their slots are sorted.
     fn put_member(
         &mut self,
         alloc: Global,

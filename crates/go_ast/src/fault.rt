@@ -32,7 +32,7 @@ pub enum Fault {
     BadBuildLine(u32),
 }
 
-/// Why a call on a source gave no answer.
+/// Why a call on a source failed.
 #[derive(Debug, Drop)]
 pub enum Refused {
     /// The source has this fault.

@@ -86,7 +86,7 @@ impl Cutter {
         Ok(())
     }
 
-    /// Closes the innermost open bracket by this mark, or answers `false` where it doesn't match.
+    /// Closes the innermost open bracket by this mark, or gives `false` where it doesn't match.
     fn close(&mut self, mark: Mark) -> bool
         ensures { (words rest : List Word) (w : Word) (place : ℕ) → w.tokens.first ≡ place
             → CutsAs mark w.mark → closes w.mark ≡ true
@@ -124,7 +124,7 @@ impl Cutter {
         Ok(())
     }
 
-    /// Takes the token at this place and offset, or answers `false` where it closes no bracket.
+    /// Takes the token at this place and offset, or gives `false` where it closes no bracket.
     pub fn take(&mut self, place: u32, offset: u32, mark: Mark) -> Mem<bool>
         requires { place + 1 < 2 ^ 32 }
         ensures { IfOk result (λ goes. (words rest : List Word) (w : Word)

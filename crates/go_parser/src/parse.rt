@@ -74,7 +74,7 @@ fn bad_declaration(source: &[u8], tokens: &[Token], chunks: &[Chunk], at: usize)
     Fault::BadDeclaration(at as u32 + 2, line_of(source, offset))
 }
 
-/// The answer where no memory was had.
+/// The refusal where no memory was had.
 fn no_memory(_error: NoMemory) -> Refused
     ensures { result ≡ refusals.NoMemory }
 {
@@ -103,13 +103,13 @@ fn file_in(alloc: Global, source: &[u8], tokens: &[Token]) -> Result<File, Refus
 /// The file that the tokens of a source spell (Go specification, "Source file organization").
 ///
 /// The condition is that the tokens and comments are those of the source, which has at most
-/// [`MAX_SOURCE_BYTES`] bytes, as a scan gives them. The answer is `Refused::Fault` exactly where
-/// the tokens spell no file: with `Unbalanced` and a byte offset where brackets don't nest, that of
-/// the first closing bracket that doesn't match the innermost open one, or else of the first that is
-/// left open; else with `NoPackageClause` where the first chunk between semicolons is no package
-/// clause; else with `BadDeclaration`, the number from 1 of the first chunk that is no declaration
-/// in its place, and the line of its first token. It is `Refused::NoMemory` where an allocation was
-/// refused.
+/// [`MAX_SOURCE_BYTES`] bytes, as a scan gives them. The call fails with `Refused::Fault` exactly
+/// where the tokens spell no file: with `Unbalanced` and a byte offset where brackets don't nest,
+/// that of the first closing bracket that doesn't match the innermost open one, or else of the
+/// first that is left open; else with `NoPackageClause` where the first chunk between semicolons is
+/// no package clause; else with `BadDeclaration`, the number from 1 of the first chunk that is no
+/// declaration in its place, and the line of its first token. It fails with `Refused::NoMemory`
+/// where an allocation was refused.
 pub fn parse_file(alloc: Global, source: &[u8], scanned: &Scanned) -> Result<File, Refused>
     requires size { length source.now ≤ MAX_SOURCE_BYTES }
     requires read { Reads source.now scanned.now.tokens scanned.now.comments }

@@ -159,13 +159,13 @@ fn read(alloc: Global, text: &str) -> Result<Found, Refused>
 
 /// The tokens and comments of a Go source, and the offsets where its lines begin.
 ///
-/// The source has at most [`MAX_SOURCE_BYTES`](go_ast::MAX_SOURCE_BYTES) bytes. The answer is
+/// The source has at most [`MAX_SOURCE_BYTES`](go_ast::MAX_SOURCE_BYTES) bytes. The call fails with
 /// `Refused::Fault` exactly where the source has no reading: with `NotUtf8` and the length of the
 /// longest prefix that is UTF-8 where it isn't UTF-8; else with the byte offset to which items lead
 /// from the start and at which none stands, as `OpenComment` where a general comment without an end
 /// begins there, as `OpenString` where a rune or a text without its closing mark does, and else as
-/// `BadToken`. It is `Refused::NoMemory` where an allocation was refused. (Go specification,
-/// "Lexical elements".)
+/// `BadToken`. It fails with `Refused::NoMemory` where an allocation was refused. (Go
+/// specification, "Lexical elements".)
 pub fn scan(alloc: Global, source: &[u8]) -> Result<Scanned, Refused>
     requires { length source.now ≤ MAX_SOURCE_BYTES }
 

@@ -69,7 +69,7 @@ pub fn run<R: Wait, T: Tree, I: Source, O: Sink>(
     ensures unwritten { IsOfTree result → out.new ≡ out.old }
 
     // A tree that could be listed is too large by its files, or by those that were read. The
-    // sources of every other answer are within the limits.
+    // sources of every other run are within the limits.
     ensures limit { (files bytes : ℕ) → AskForScan (command_of (map string_bytes words.now))
         → result ≡ Status.Limit files bytes → IsTooLarge (T.scans tree.new)
         (T.read_faults tree.old) (T.read_faults tree.new) files bytes }

@@ -28,7 +28,7 @@ pub record MayGoOn (bytes : List ℕ) : Type 0 where
   pub none : HasNoRequest bytes
   pub not_hopeless : ¬ (IsHopeless bytes)
 
--- what the answer says of the bytes
+-- what the result says of the bytes
 abbrev pub IsFront : List ℕ → Front → Type 0
 IsFront bytes (fronts.Head request len) =
     (len ≤ length bytes) × BeginsWith bytes request (drop len bytes)

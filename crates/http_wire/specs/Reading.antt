@@ -19,14 +19,14 @@ reading rest ended = record { rest = rest; ended = ended }
 abbrev pub EndsIn : StreamEnd → Reading → List ℕ → Type 0
 EndsIn end old remaining = (remaining ≡ old.rest) × Requests old.rest old.ended [] end
 
--- what the answer says of the bytes in no head given, and which of them remain
+-- what the result says of the bytes in no head given, and which of them remain
 abbrev pub Answers : Reading → Next → List ℕ → Type 0
 Answers old (answers.Head request) remaining = BeginsWith old.rest request remaining
 Answers old answers.More remaining = EndsIn Unfinished old remaining
 Answers old answers.Clean remaining = EndsIn Clean old remaining
 Answers old answers.Bad remaining = EndsIn Bad old remaining
 
--- the answer where the stream ends so
+-- the result where the stream ends so
 abbrev pub answer_of : StreamEnd → Next
 answer_of Clean = answers.Clean
 answer_of Bad = answers.Bad
@@ -37,7 +37,7 @@ abbrev pub EndsAllIn : StreamEnd → List ℕ → List Request → Bool → List
 EndsAllIn end fed given ended remaining =
     HasGiven fed given remaining × Requests fed ended given end
 
--- what the answer says of all that was fed, of which these requests were given before
+-- what the result says of all that was fed, of which these requests were given before
 abbrev pub AnswersOfAll : List ℕ → List Request → Bool → Next → List ℕ → Type 0
 AnswersOfAll fed given ended (answers.Head request) remaining =
     HasGiven fed (given ++ request ∷ []) remaining

@@ -131,7 +131,7 @@ impl Heads {
         })
     }
 
-    /// Takes bytes of the stream, and answers how many first bytes of the piece it took: as many as
+    /// Takes bytes of the stream, and gives how many first bytes of the piece it took: as many as
     /// there is room for, where [`MAX_REST_BYTES`] that stand in no head given fill it. It takes no
     /// memory.
     pub fn feed(&mut self, piece: &[u8]) -> usize
@@ -164,14 +164,14 @@ impl Heads {
     }
 
     /// What stands next in the stream (RFC 9112, section 2.2). A head is given once, with its
-    /// bytes: at most [`MAX_HEAD_BYTES`], the empty lines before it among them. `Bad` comes where
-    /// a head breaks a rule, where a line ended and no bytes can make what stands there a head, at
-    /// as many bytes as a head may have, and where the input ended in a head; each further answer
-    /// is then `Bad`. `NoMemory` comes only where a head is next, and the reader is then as it was.
+    /// bytes: at most [`MAX_HEAD_BYTES`], the empty lines before it among them. `Bad` comes where a
+    /// head breaks a rule, where a line ended and no bytes can make what stands there a head, at as
+    /// many bytes as a head may have, and where the input ended in a head; each further call then
+    /// gives `Bad`. `NoMemory` comes only where a head is next, and the reader is then as it was.
     pub fn next(&mut self, alloc: Global) -> Mem<Next>
         ensures answer { IfOk result (λ next. Answers self.old next self.new.rest) }
 
-        // Where the definition gives no further request, the answer is how it ends.
+        // Where the definition gives no further request, the call gives how it ends.
         ensures exact { (end : StreamEnd) → Requests self.old.rest self.old.ended [] end
             → result ≡ Ok (answer_of end) }
 

@@ -4,7 +4,7 @@ use super::*;
 use plain_data::Mem;
 use std::alloc::Global;
 
-/// Writes a word and the target of each head that is whole, and answers what stops them.
+/// Writes a word and the target of each head that is whole, and gives what stops them.
 fn log_heads(alloc: Global, heads: &mut Heads, log: &mut String) -> Mem<Next>
     ensures { heads.new.ended ≡ heads.old.ended }
 {

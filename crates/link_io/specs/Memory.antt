@@ -55,8 +55,8 @@ pub record Reads {E : Type 0} (old new : SourceState) (before after : List ℕ) 
   pub err : OnErr result (new ≡ record old { calls = called old.calls; faults = one_more old.faults })
   pub same_buffer : OnErr result (after ≡ before)
 
--- what a write of a piece did: it fails where its number says so, and else only where the bytes that it takes
--- find no memory
+-- what a write of a piece did: it fails where its number says so, and else only where the bytes
+-- that it takes find no memory
 pub record Writes {E : Type 0} (old new : SinkState) (piece : List ℕ) (result : Result ℕ E) : Type 0 where
   pub listed : NextFails old.calls → IsErr result
   pub fails : OnErr result (NextFails old.calls ⊎ (0 < length piece))

@@ -9,8 +9,8 @@ pub record Word : Type 0 where
   pub total : ℕ
   pub seats : ℕ
 
--- A seat, by the numbers that its own steps found on its word, in their order. A step adds one to the
--- word and finds what the word was.
+-- A seat, by the numbers that its own steps found on its word, in their order. A step adds one to
+-- the word and finds what the word was.
 pub record Seat : Type 0 where
   pub word : Word
   -- those below the total: its claims

@@ -21,8 +21,9 @@ pub record Fits (terms : Terms) (v : View) : Type 0 where
   pub nones : length v.past ≤ v.seats
   pub spent : v.seats ≡ 0 → v.claimed ≡ []
 
--- Each number below the word and below the total stands in one view, once, and no other does; what the
--- word is beyond these is the Nones of the views; and the views stand for the seats that were made.
+-- Each number below the word and below the total stands in one view, once, and no other does; what
+-- the word is beyond these is the Nones of the views; and the views stand for the seats that were
+-- made.
 pub record Keeps (terms : Terms) (s : State (Unit {0}) View) : Type 0 where
   pub small : (terms.total < 4294967296) × (terms.seats ≤ 64)
   pub word : (w : ℕ) × (s.words ≡ w ∷ [])
@@ -42,7 +43,8 @@ drew v n = record { total = v.total; made = v.made; seats = v.seats; claimed = v
 abbrev pub missed : View → ℕ → View
 missed v n = record { total = v.total; made = v.made; seats = v.seats; claimed = v.claimed; past = v.past ++ n ∷ [] }
 
--- A number found below the total is claimed, and is above all that this view had. Any other is noted.
+-- A number found below the total is claimed, and is above all that this view had. Any other is
+-- noted.
 pub record Draws (st : Step (Unit {0})) (me : Me (Unit {0}) View) (n : ℕ) (me' : Me (Unit {0}) View) : Type 0 where
   pub drawn : n < me.0.total → (me'.0 ≡ drew me.0 n) × All (λ k. k < n) me.0.claimed
   pub none : me.0.total ≤ n → me'.0 ≡ missed me.0 n

@@ -28,7 +28,7 @@ impl Model for ClaimSeat {
 }
 
 impl ClaimSeat {
-    /// Claims the next number, or answers `None` exactly where this step found the word at the total
+    /// Claims the next number, or gives `None` exactly where this step found the word at the total
     /// or past it. It adds one to the word in a single step, waits for nobody and takes no memory.
     pub fn claim(&mut self) -> Option<u64>
         requires open { IsOpen self.old }
@@ -38,7 +38,7 @@ impl ClaimSeat {
             (λ number. All (λ earlier. earlier < number) self.old.claimed) }
         ensures ended { IfNone result (FoundPast self.old self.new) }
 
-        // What stays, whatever the answer.
+        // What stays, whatever the call gives.
         ensures word { self.new.word ≡ self.old.word }
     {
         self.group.claim()
@@ -79,9 +79,9 @@ impl Claims {
         Ok(Seq::from_vec(all))
     }
 
-    /// Joins all the seats of a claim word and answers how many numbers they claimed: the claims are
-    /// the numbers below the answer, each once, and the answer is the total where each seat has had
-    /// its `None`. It takes no memory.
+    /// Joins all the seats of a claim word and gives how many numbers they claimed: the claims are
+    /// the numbers below that one, each once, and it is the total where each seat has had its
+    /// `None`. The call takes no memory.
     pub fn close(seats: Seq<ClaimSeat>) -> u64
         requires { AreAllSeats seats }
         ensures claims { IsEachBelow result (claims_of seats) }

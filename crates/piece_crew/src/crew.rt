@@ -77,7 +77,7 @@ where
 ///
 /// # Errors
 ///
-/// `NoMemory` where an allocation is refused, or a job answers it. The outputs are then dropped.
+/// `NoMemory` where an allocation is refused, or a job gives it. The outputs are then dropped.
 pub fn run_pieces<J: Job + Sync, R: Threads + Sync>(
     rt: &R,
     alloc: Global,

@@ -72,8 +72,8 @@ fn outputs_stand_in_the_order_of_the_jobs(rt: HostRuntime) -> Result<(), Fail> {
     Ok(())
 }
 
-// Four jobs, of which one waits until the other three have ended. Each gives its number, and one that
-// waits too long gives another.
+// Four jobs, of which one waits until the other three have ended. Each gives its number, and one
+// that waits too long gives another.
 #[derive(Drop)]
 struct Waiting {
     waits: u32,

@@ -1,15 +1,15 @@
-//! The answers of calls that can run out of memory, and of calls that reach outside the program.
+//! How calls fail that can run out of memory, and calls that reach outside the program.
 
 use std::alloc::{AllocError, AllocFailed};
 use std::error::Error;
 use std::io::ErrorKind;
 use std::{fmt, io};
 
-/// An allocation was refused. It is the one answer that no contract ties to a cause.
+/// An allocation was refused. It is the one failure that no contract ties to a cause.
 #[derive(Clone, Copy, Debug, PartialEq, Eq)]
 pub struct NoMemory;
 
-/// What a call answers that can fail only for want of memory.
+/// What a call returns that can fail only for want of memory.
 pub type Mem<T> = Result<T, NoMemory>;
 
 /// A call to the outside failed: the count of faults of the object that was called rose, or stands
@@ -17,7 +17,7 @@ pub type Mem<T> = Result<T, NoMemory>;
 #[derive(Clone, Copy, Debug, PartialEq, Eq)]
 pub struct Failed;
 
-/// Why a call to the outside that also takes memory gave no answer.
+/// Why a call to the outside that also takes memory failed.
 #[derive(Clone, Copy, Debug, PartialEq, Eq)]
 pub enum IoFail {
     /// The outside failed, and the count of faults says so.

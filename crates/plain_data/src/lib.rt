@@ -1,9 +1,9 @@
-//! Plain data that every layer shares: sequences, texts and byte strings, and the answers of calls
+//! Plain data that every layer shares: sequences, texts and byte strings, and the failures of calls
 //! that run out of memory or reach outside.
 //!
 //! The types here have no hidden pointer in what contracts see of them: a sequence is its list, a
 //! text and a byte string are their bytes. `specs/Causes.antt` says what a count of faults says of
-//! an answer.
+//! how a call ended.
 #![tactic(auto)]
 
 mod counts;

@@ -342,9 +342,9 @@ impl<E: Drop> EditionReader<E> {
     ///
     /// # Errors
     ///
-    /// `NoMemory` where the entry is refused, where the edition can't have a further owner, or where
-    /// what is published is below what was told. The view is then as it was, or, where an owner
-    /// was wanting, has gained that one entry, of the newest edition.
+    /// `NoMemory` where the entry is refused, where the edition can't have a further owner, or
+    /// where what is published is below what was told. The view is then as it was, or, where an
+    /// owner was wanting, has gained that one entry, of the newest edition.
     pub fn enter(&mut self) -> Mem<Entered<E>>
         // What the entry gives.
         ensures number { IfOk result (λ entered. entered.number ≡ length self.new.seen) }
@@ -354,7 +354,7 @@ impl<E: Drop> EditionReader<E> {
         ensures informed { OnOk result (StartsWith self.new.seen self.old.told) }
         ensures last { OnOk result (IsTrue self.old.closed → self.new.seen ≡ self.old.told) }
 
-        // What stays, whatever the answer.
+        // What stays, whatever the call gives.
         ensures refused { OnErr result ((self.new ≡ self.old) ⊎ (GainsEntry self.old self.new
             × StartsWith self.new.seen self.old.told)) }
         ensures opening { self.new.opening ≡ self.old.opening }
@@ -388,7 +388,7 @@ impl<E: Drop> EditionReader<E> {
         ensures informed { OnOk result (StartsWith self.new.seen self.old.told) }
         ensures last { OnOk result (IsTrue self.old.closed → self.new.seen ≡ self.old.told) }
 
-        // What stays, whatever the answer.
+        // What stays, whatever the call gives.
         ensures refused { OnErr result (self.new ≡ self.old) }
         ensures entries { self.new.entries ≡ self.old.entries }
         ensures opening { self.new.opening ≡ self.old.opening }

@@ -12,7 +12,7 @@ const LAST: u64 = 1_000;
 /// How often each of its readers enters.
 const ENTRIES: u64 = 3_000;
 
-// Publishes an edition, and answers its number.
+// Publishes an edition, and gives its number.
 fn publish<R: Wait>(
     rt: &R,
     alloc: Global,
@@ -30,7 +30,7 @@ fn publish<R: Wait>(
     publisher.publish(rt, edition).ok()
 }
 
-// Enters, and answers the number and the edition.
+// Enters, and gives the number and the edition.
 fn enter(reader: &mut EditionReader<u32>) -> Option<(u64, u32)>
     ensures { reader.new.opening ≡ reader.old.opening }
 {
@@ -56,7 +56,7 @@ fn an_entry_gives_the_newest_edition_at_its_own_step(rt: HostRuntime) {
     publisher.close(&rt);
 }
 
-// Publishes an edition as far as there is memory for it, and answers the newest edition of the
+// Publishes an edition as far as there is memory for it, and gives the newest edition of the
 // history then with its number, where a reader is given that one. A publication takes no memory, so
 // none is refused.
 fn publish_and_enter<R: Wait>(
@@ -144,7 +144,7 @@ fn an_edition_that_nobody_has_is_dropped(rt: HostRuntime) {
     publisher.close(&rt);
 }
 
-// Publishes editions up to this number, as far as memory allows, and answers how many the history
+// Publishes editions up to this number, as far as memory allows, and gives how many the history
 // has then.
 fn publish_up_to<R: Wait>(rt: &R, alloc: Global, publisher: &mut Publisher<u64>, last: u64) -> u64
     requires { publisher.old.closed ≡ false }
@@ -164,7 +164,7 @@ fn publish_up_to<R: Wait>(rt: &R, alloc: Global, publisher: &mut Publisher<u64>,
     publisher.count()
 }
 
-// Enters again and again. It answers whether the numbers never fell, and each edition was that with
+// Enters again and again, and gives whether the numbers never fell, and each edition was that with
 // its number.
 fn numbers_rise(reader: &mut EditionReader<u64>) -> bool {
     let mut newest = 1;

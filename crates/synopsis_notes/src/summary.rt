@@ -44,7 +44,7 @@ fn synopsis_of_paragraph(alloc: Global, text: &str) -> Mem<Txt>
 ///
 /// The sentence ends behind the first `.` that a space or the end follows, unless one upper case
 /// letter stands alone before it, or behind the first U+3002 or U+FF0E, and else with the
-/// paragraph. The answer is empty where it would begin `copyright`, `all rights` or `author`, in
+/// paragraph. The synopsis is empty where it would begin `copyright`, `all rights` or `author`, in
 /// any case of ASCII letters.
 ///
 /// # Errors

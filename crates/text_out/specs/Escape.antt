@@ -18,7 +18,8 @@ quotation_mark = 34
 abbrev pub apostrophe : ℕ
 apostrophe = 39
 
--- what stands for a byte of a text: `&`, `<`, `>`, `"` and `'` become references, any other byte stays
+-- what stands for a byte of a text: `&`, `<`, `>`, `"` and `'` become references, any other byte
+-- stays
 abbrev pub escape_of : ℕ → List ℕ
 escape_of b =
     if b == ampersand then codes "&amp;"

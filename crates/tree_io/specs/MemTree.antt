@@ -5,8 +5,8 @@ use Rattle.plain_data.specs.Counts.{Numbered, called, one_more}
 use Rattle.tree_io.specs.Path.{Belongs, HasSourcePaths}
 use Rattle.tree_io.specs.Sources.{Contents, bytes_at}
 
--- a tree in memory: the contents of its versions, those of the scans opened so far, its calls over the three
--- methods of a tree, and the two counts of faults
+-- a tree in memory: the contents of its versions, those of the scans opened so far, its calls over
+-- the three methods of a tree, and the two counts of faults
 pub record State : Type 0 where
   pub versions : List Contents
   pub scans : List Contents
@@ -14,12 +14,14 @@ pub record State : Type 0 where
   pub list_faults : ℕ
   pub read_faults : ℕ
 
--- the contents that are told of a version: of the paths that belong, each once, with its first bytes
+-- the contents that are told of a version: of the paths that belong, each once, with its first
+-- bytes
 pub record IsTold (version : List (List ℕ × List ℕ)) (contents : Contents) : Type 0 where
   pub paths : HasSourcePaths contents
   pub first : (path : List ℕ) → Belongs path → bytes_at contents path ≡ bytes_at version path
 
--- the version with this number, counted from 0; the last one past the end, and empty contents where there is none
+-- the version with this number, counted from 0; the last one past the end, and empty contents where
+-- there is none
 abbrev pub version_at : List Contents → ℕ → Contents
 version_at versions n = slice_index_or versions (min n (length versions - 1)) []
 

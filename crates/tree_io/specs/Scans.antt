@@ -10,7 +10,8 @@ use Rattle.tree_io.specs.declared.tree.Entry.{Entry}
 abbrev pub under_way : List Contents → Contents
 under_way scans = slice_index_or scans (length scans - 1) []
 
--- where scans are told there is one more, a set of files whose paths belong; else there are still none
+-- where scans are told there is one more, a set of files whose paths belong; else there are still
+-- none
 abbrev pub OpensScan : Option (List Contents) → Option (List Contents) → Type 0
 OpensScan None None = Unit {0}
 OpensScan None (Some now) = ⊥

@@ -47,7 +47,8 @@ unread_count sources = count_by (λ source. is_unread source.1) sources
 abbrev pub IsFrom : Contents → List ℕ × Entry → Type 0
 IsFrom contents source = (source.1 ≡ Unread) ⊎ IsSomeAnd (bytes_at contents source.0) (λ bytes. source.1 ≡ entry_of bytes)
 
--- sources that a scan of the contents gives, during which the count of read faults went from before to now
+-- sources that a scan of the contents gives, during which the count of read faults went from before
+-- to now
 pub record IsScannedFrom (sources : Sources) (contents : Contents) (before now : ℕ) : Type 0 where
   pub valid : IsSources sources
   pub same_paths : paths_of sources ≡ paths_of contents

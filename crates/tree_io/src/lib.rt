@@ -1,4 +1,4 @@
-//! Trees of Go files: what a tree answers, one in memory, and one in a real folder.
+//! Trees of Go files: what a tree is, one in memory, and one in a real folder.
 //!
 //! A [`Tree`] is scanned by opening a scan, listing its paths and reading them. Its contracts speak
 //! of the contents of the scans opened so far, where a tree tells them, and of two counts of

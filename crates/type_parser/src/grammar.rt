@@ -53,7 +53,8 @@ pub fn signature_in(alloc: Global, words: &Words<'_>) -> Mem<Option<Signature>>
 /// The names and the type of 200 levels at most that words declare, with commas between the names,
 /// as a field or a variable does (Go specification, "Struct types", "Variable declarations").
 ///
-/// `None` comes exactly where they declare none so. `NoMemory` comes where an allocation is refused.
+/// `None` comes exactly where they declare none so. `NoMemory` comes where an allocation is
+/// refused.
 pub fn declared_in(alloc: Global, words: &Words<'_>) -> Mem<Option<(Seq<Span>, TypeExpr)>>
     ensures spelled { IfOk result (λ found. MatchOption found
         ((names : List Span) (typ : TypeExpr) → Declared (Spells 200) words.now names typ → ⊥)
