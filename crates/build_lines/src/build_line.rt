@@ -50,7 +50,6 @@ fn text_of_comment<'a>(source: &'a [u8], comment: &Comment) -> &'a [u8]
     &source[comment.span.start as usize..comment.span.end as usize]
 }
 
-/// Whether a byte is white space.
 fn is_white_space(byte: u8) -> bool
     ensures { result ≡ is_white_space byte }
 {

@@ -35,7 +35,6 @@ fn is_cut(text: &[u8]) -> bool
     text.iter().any(|byte| *byte == b'_')
 }
 
-/// The last part.
 #[tactic(auto, unfolding(crate::specs::FileNames::last_part))]
 fn last_part(text: &[u8]) -> &[u8]
     ensures { result.now ≡ last_part text.now }

@@ -53,14 +53,12 @@ const UNIX_SYSTEMS: [&str; 12] = [
     "solaris",
 ];
 
-/// Whether a tag is this word.
 fn is(tag: &[u8], word: &str) -> bool
     ensures { result ≡ bytes_eq tag.now word.now }
 {
     tag == word.as_bytes()
 }
 
-/// Whether a tag is one of these words.
 fn is_word(words: &[&str], tag: &[u8]) -> bool
     ensures { result ≡ list_any (λ word. bytes_eq tag.now word.now) words.now }
 {
@@ -137,7 +135,6 @@ fn is_implied(system: &[u8], tag: &[u8]) -> bool
         || (is(tag, "darwin") && is(system, "ios"))
 }
 
-/// Whether a tag is one of these.
 fn is_among(tags: &Seq<Txt>, tag: &[u8]) -> bool
     ensures { result ≡ is_among tags.now tag.now }
 {

@@ -39,7 +39,6 @@ fn comments_before(scanned: &Scanned, line: usize) -> usize
     comments.partition_point(|comment| line_at(lines, comment.span.end) < line)
 }
 
-/// Whether a token ends on a line.
 fn token_ends_on(scanned: &Scanned, line: usize) -> bool
     requires { IsInOrder scanned.now }
     ensures { result ≡ token_ends_on scanned.now line }

@@ -91,7 +91,6 @@ fn is_numbered(items: &[Item]) -> bool
     }
 }
 
-/// The list that lines are.
 fn list_block(alloc: Global, lines: &[&str]) -> Mem<Block>
     ensures { IfOk result (λ block. block ≡ list_of (items_of (texts lines.now))) }
 {
@@ -100,7 +99,6 @@ fn list_block(alloc: Global, lines: &[&str]) -> Mem<Block>
     Ok(Block::List { numbered, items })
 }
 
-/// The block of an indented span.
 fn indented_block(alloc: Global, lines: &[&str]) -> Mem<Block>
     ensures { IfOk result (λ block. block ≡ indented_block (texts lines.now)) }
 {
@@ -174,7 +172,6 @@ fn is_plain_so_far(line: &str, plain: bool) -> bool
     is_plain(line) || (line.is_empty() && plain)
 }
 
-/// The blocks of lines.
 fn blocks_of_lines(alloc: Global, lines: &[&str]) -> Mem<Seq<Block>>
     ensures { IfOk result (λ blocks.
         blocks ≡ blocks_from true false (pieces_of (texts lines.now))) }

@@ -50,7 +50,6 @@ fn is_heading_mark(byte: u8) -> bool
     b";:!?+*/=[]{}_^&~%#@<>\"\\.".contains(&byte)
 }
 
-/// The last character of a text.
 fn last_char(text: &str) -> Option<char>
     ensures { result ≡ last_or None (chars text.now) }
 {
@@ -97,7 +96,6 @@ fn has_known_scheme(address: &[u8]) -> bool
         || has_scheme("ftp://", address)
 }
 
-/// Whether a text has a blank.
 fn has_blank(text: &[u8]) -> bool
     ensures { result ≡ list_any is_blank text.now }
 {
@@ -185,7 +183,6 @@ fn definition_in(line: &str) -> Option<Definition<'_>>
     definition_with(text, rest)
 }
 
-/// The definition that a line is.
 fn definition_of(line: &str) -> Option<Definition<'_>>
     ensures { MatchOption result (definition_of line.now ≡ None)
         (λ found. definition_of line.now

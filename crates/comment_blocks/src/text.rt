@@ -104,7 +104,6 @@ fn kept_line(content: &str) -> Option<&str>
     }
 }
 
-/// Where the content of a comment ends.
 fn content_end(comment: &Comment) -> usize
     requires { 2 ≤ comment.now.span.end }
     ensures { result ≡ content_end comment.now }
@@ -162,7 +161,6 @@ impl Lines {
         }
     }
 
-    /// Adds a line.
     fn push_line(&mut self, line: &str) -> Mem<()>
         ensures { OnOk result (self.new ≡ after_line self.old line.now) }
     {
@@ -178,7 +176,6 @@ impl Lines {
         Ok(())
     }
 
-    /// Adds the lines of a text.
     fn push_lines(&mut self, text: &str) -> Mem<()>
         ensures { OnOk result (self.new ≡ after_lines self.old (lines_of text.now)) }
     {
@@ -190,7 +187,6 @@ impl Lines {
         self.push_line(rest)
     }
 
-    /// Adds the lines of a comment.
     fn push_comment(&mut self, source: &[u8], comment: &Comment) -> Mem<()>
         requires { HasContent source.now comment.now }
         ensures { OnOk result (self.new

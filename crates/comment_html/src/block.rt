@@ -12,7 +12,6 @@ use plain_data::Mem;
 use std::alloc::Global;
 use text_out::Text;
 
-/// Adds a paragraph.
 #[tactic(auto, unfolding(crate::specs::Html::paragraph_block_html))]
 fn push_paragraph<N: Names>(
     alloc: Global,
@@ -29,7 +28,6 @@ fn push_paragraph<N: Names>(
     html.push("</p>\n")
 }
 
-/// Adds a heading.
 #[tactic(auto, unfolding(crate::specs::Html::heading_html))]
 fn push_heading<N: Names>(
     alloc: Global,
@@ -46,7 +44,6 @@ fn push_heading<N: Names>(
     html.push("</h4>\n")
 }
 
-/// Adds code.
 #[tactic(auto, unfolding(crate::specs::Html::code_html))]
 fn push_code(html: &mut Text, text: &str) -> Mem<()>
     ensures { OnOk result (html.new ≡ html.old ++ code_html text.now) }

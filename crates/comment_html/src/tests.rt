@@ -24,7 +24,6 @@ impl Names for TwoNames {
     }
 }
 
-/// The HTML of a text.
 fn html_of(alloc: Global, text: &str) -> Mem<Txt> {
     let blocks = blocks(alloc, text)?;
     html(alloc, blocks.as_slice(), &TwoNames)

@@ -13,7 +13,6 @@ use plain_data::Mem;
 use std::alloc::Global;
 use text_out::Text;
 
-/// A copy of a definition.
 fn copied(alloc: Global, definition: &LinkDef) -> Mem<LinkDef>
     ensures { IfOk result (λ copy. copy ≡ definition.now) }
 {
@@ -23,7 +22,6 @@ fn copied(alloc: Global, definition: &LinkDef) -> Mem<LinkDef>
     })
 }
 
-/// Adds copies of definitions.
 fn push_copies(alloc: Global, all: &mut Seq<LinkDef>, definitions: &[LinkDef]) -> Mem<()>
     ensures { OnOk result (all.new ≡ all.old ++ definitions.now) }
 {
@@ -46,7 +44,6 @@ fn definitions_of(alloc: Global, blocks: &[Block]) -> Mem<Seq<LinkDef>>
     Ok(all)
 }
 
-/// Adds blocks.
 fn push_blocks<N: Names>(
     alloc: Global,
     html: &mut Text,

@@ -14,7 +14,6 @@ use go_ast::{Scanned, Span, Token, TokenRange};
 use plain_data::{Mem, Txt};
 use std::alloc::Global;
 
-/// The text of a span.
 fn text_of(source: &[u8], span: Span) -> &[u8]
     ensures { result.now ≡ text_of source.now span }
 {
@@ -24,7 +23,6 @@ fn text_of(source: &[u8], span: Span) -> &[u8]
     &rest[..size.min(rest.len())]
 }
 
-/// The tokens of a range.
 fn tokens_in(tokens: &[Token], run: TokenRange) -> &[Token]
     ensures { result.now ≡ tokens_in run tokens.now }
 {

@@ -78,14 +78,12 @@ impl<'a> Accepted<'a> {
     }
 }
 
-/// Whether a path is one of a test file.
 fn is_test_path(path: &str) -> bool
     ensures { result ≡ ends_with nat_eq path.now (codes "_test.go") }
 {
     path.ends_with("_test.go")
 }
 
-/// A file, where it is accepted.
 fn accepted_file<'a>(
     snapshot: &'a Snapshot,
     pieces: &'a [Piece],
@@ -103,7 +101,6 @@ fn accepted_file<'a>(
     }
 }
 
-/// The accepted files of a snapshot.
 pub(crate) fn accepted_files<'a>(
     alloc: Global,
     snapshot: &'a Snapshot,

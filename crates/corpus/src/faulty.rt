@@ -14,7 +14,6 @@ use corpus_piece::{Outcome, Piece};
 use go_ast::{Fault, Mem, Seq, Txt};
 use std::alloc::Global;
 
-/// A copy of a fault.
 fn copy_fault(alloc: Global, fault: &Fault) -> Mem<Fault>
     ensures { IfOk result (λ copy. copy ≡ fault.now) }
 {

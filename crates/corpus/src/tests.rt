@@ -13,14 +13,12 @@ use std::process::Abort;
 use std::test::Fail;
 use tree_io::{Entry, belongs};
 
-/// Whether all paths belong.
 fn all_belong(entries: &[(Txt, Entry)]) -> bool
     ensures { IsTrue result ↔ All (λ entry. Belongs entry.0) entries.now }
 {
     entries.iter().all(|entry| belongs(entry.0.as_str()))
 }
 
-/// Whether the paths rise.
 fn all_rise(entries: &[(Txt, Entry)]) -> bool
     ensures { IsTrue result → IsRising (paths_of entries.now) }
 {
@@ -51,7 +49,6 @@ fn all_bytes(entries: &[(Txt, Entry)]) -> Option<u64>
     Some(bytes)
 }
 
-/// The pieces of the files of a snapshot.
 fn pieces_of(alloc: Global, snapshot: &Snapshot) -> Mem<Seq<Piece>>
     ensures { IfOk result (AreFilesOf snapshot.now) }
 {

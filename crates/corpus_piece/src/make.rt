@@ -85,7 +85,6 @@ fn outcome_of_scan(alloc: Global, bytes: &[u8], scanned: Scanned, number: u32) -
     }
 }
 
-/// The outcome of a file by its bytes.
 fn outcome_of_bytes(
     alloc: Global,
     path: &str,

@@ -25,7 +25,6 @@ fn entries<'a>(alloc: Global, members: &'a [Member]) -> Mem<Vec<(&'a str, u32)>>
     Ok(entries)
 }
 
-/// The numbers of these entries.
 fn numbers_of(alloc: Global, entries: &[(&str, u32)]) -> Mem<Vec<u32>>
     ensures { IfOk result (λ numbers. numbers.items ≡ map (λ entry. entry.1) entries.now) }
 {
@@ -42,7 +41,6 @@ fn sorted_numbers(alloc: Global, members: &[Member]) -> Mem<Vec<u32>>
     numbers_of(alloc, entries.as_slice())
 }
 
-/// Whether the member with a number is an exported type.
 fn is_exported_type(members: &[Member], number: u32) -> bool
     ensures { result ≡ at_number is_exported_type false members.now number }
 {

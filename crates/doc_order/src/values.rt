@@ -81,7 +81,6 @@ fn without_empty<'a>(alloc: Global, names: &[&'a str]) -> Mem<Vec<&'a str>>
     Ok(named)
 }
 
-/// Whether all of these names are this one.
 fn are_all(names: &[&str], name: &str) -> bool
     ensures { result ≡ list_all (λ other. bytes_eq name.now other.now) names.now }
 {

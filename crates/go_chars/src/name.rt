@@ -36,14 +36,12 @@ fn is_identifier(text: &str) -> bool
     }
 }
 
-/// Whether each character of a text is a letter or a digit.
 fn are_letters_or_digits(text: &str) -> bool
     ensures { result ≡ list_all is_letter_or_digit (chars text.now) }
 {
     text.chars().all(|c| is_letter(c) || is_digit(c))
 }
 
-/// Whether a word is this one.
 #[inline(always)]
 fn is(word: &[u8], known: &str) -> bool
     ensures { result ≡ bytes_eq word.now known.now }

@@ -6,7 +6,6 @@ use std::alloc::Global;
 use std::process::Abort;
 use std::test::Fail;
 
-/// The kind of a token.
 fn kind_of(text: &str) -> TokenKind {
     match text {
         "func" | "package" | "var" => TokenKind::Keyword,

@@ -104,7 +104,6 @@ impl Cutter {
         }
     }
 
-    /// Takes the semicolon at this place.
     fn take_semicolon(&mut self, place: u32) -> Mem<()>
         requires { place + 1 < 2 ^ 32 }
         ensures { OnOk result ((words rest : List Word) (w : Word) → w.mark ≡ marks.Semi

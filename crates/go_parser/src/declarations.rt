@@ -22,7 +22,6 @@ pub enum Declared {
     Bad(usize),
 }
 
-/// Whether a declaration is one of imports.
 fn is_import(decl: &Decl) -> bool
     ensures { result ≡ files.is_import decl.now }
 {

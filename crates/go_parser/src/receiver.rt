@@ -8,7 +8,6 @@ use go_ast::{Mark, Receiver, Seq, Span, Word};
 use std::alloc::Global;
 use type_parser::Words;
 
-/// The name that the words are.
 fn name(words: &Words<'_>) -> Option<Span>
     ensures { result ≡ spec.read_name words.now }
 {

@@ -40,7 +40,6 @@ fn comment_end(rest: &[u8]) -> Option<usize>
     memmem::find(rest, b"*/")
 }
 
-/// Whether a newline is among the bytes.
 fn has_newline(bytes: &[u8]) -> bool
     ensures { result ≡ has_newline bytes.now }
 {

@@ -54,14 +54,12 @@ fn is_scalar(code: u64) -> bool
     code < 0xD800 || (0xE000 <= code && code < 0x11_0000)
 }
 
-/// Whether all bytes are octal digits.
 fn are_octal(digits: &[u8]) -> bool
     ensures { result ≡ list_all is_octal_digit digits.now }
 {
     digits.iter().all(|digit| matches!(digit, b'0'..=b'7'))
 }
 
-/// Whether all bytes are hexadecimal digits.
 fn are_hexadecimal(digits: &[u8]) -> bool
     ensures { result ≡ list_all is_ascii_hexdigit digits.now }
 {

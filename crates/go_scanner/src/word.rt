@@ -12,7 +12,6 @@ use crate::shape::Shape;
 use go_ast::TokenKind;
 use go_chars::{is_digit, is_keyword, is_letter};
 
-/// Whether a character is a letter or a digit.
 fn is_letter_or_digit(c: char) -> bool
     ensures { result ≡ is_letter_or_digit c }
 {

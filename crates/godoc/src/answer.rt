@@ -1,4 +1,7 @@
 //! The command `answer`: the requests of one connection, answered by one edition.
+//!
+//! Four functions hand its session on, since each tells of it in other terms: by what the one
+//! reader was told, by the edition and a link, by an input and an output, and as a run's status.
 
 ghost use Rattle.std.specs.Prelude.{◌≡◌, ◌≢◌, ◌⊎◌, true, ℕ, [], ◌∷◌, All, vec_len};
 ghost use Rattle.corpus.specs.Corpora.{Edition};

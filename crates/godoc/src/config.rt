@@ -19,7 +19,6 @@ pub(crate) fn default_config(alloc: Global) -> Mem<Config>
     })
 }
 
-/// A copy of a configuration.
 pub(crate) fn copy_config(alloc: Global, config: &Config) -> Mem<Config>
     ensures { IfOk result (λ copy. copy ≡ config.now) }
 {

@@ -377,7 +377,6 @@ fn packages_imports_and_values_are_declared(rt: HostRuntime) -> Result<(), Fail>
     Ok(())
 }
 
-/// A type declaration.
 fn type_decl(alloc: Global, name: u32, params: Seq<TypeParam>, typ: TypeExpr) -> Mem<Decl> {
     let spec = TypeSpec {
         tokens: no_tokens(),

@@ -25,7 +25,6 @@ pub(crate) fn index_of(alloc: Global, mut names: Vec<String>) -> Mem<Index>
     Ok(places)
 }
 
-/// Copies of texts.
 pub(crate) fn copies_of(alloc: Global, texts: &[Txt]) -> Mem<Vec<String>>
     ensures { IfOk result (λ copies. map string_bytes copies.items ≡ texts.now) }
 {

@@ -53,7 +53,6 @@ fn package_at<'a>(
     }
 }
 
-/// The local names of imports.
 pub(crate) fn local_names(
     alloc: Global,
     packages: &[NamedPackage],

@@ -10,7 +10,6 @@ use crate::index::Index;
 use crate::packages::{Import, NamedPackage};
 use crate::tables::PackageTables;
 
-/// The package at a place.
 pub(crate) fn package_in(packages: &[NamedPackage], place: usize) -> Option<&NamedPackage>
     ensures { option_copied result ≡ slice_get packages.now place }
 {
@@ -35,14 +34,12 @@ pub(crate) fn import_in(
     }
 }
 
-/// The tables at a place.
 pub(crate) fn tables_in(tables: &[PackageTables], place: u32) -> Option<&PackageTables>
     ensures { option_copied result ≡ slice_get tables.now place }
 {
     tables.get(place as usize)
 }
 
-/// The index at a place.
 pub(crate) fn index_in(indexes: &[Index], place: u32) -> Option<&Index>
     ensures { option_copied result ≡ slice_get indexes.now place }
 {

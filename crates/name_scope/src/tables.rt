@@ -18,7 +18,6 @@ pub(crate) struct PackageTables {
     pub(crate) files: Vec<Index>,
 }
 
-/// The paths of packages.
 fn paths_of(alloc: Global, packages: &[NamedPackage]) -> Mem<Vec<String>>
     ensures { IfOk result (λ paths. map string_bytes paths.items ≡ map (λ p. p.path) packages.now) }
 {
@@ -36,7 +35,6 @@ pub(crate) fn index_paths(alloc: Global, packages: &[NamedPackage]) -> Mem<Index
     index_of(alloc, paths_of(alloc, packages)?)
 }
 
-/// The tables of each package.
 pub(crate) fn make_tables(
     alloc: Global,
     packages: &[NamedPackage],

@@ -25,7 +25,6 @@ fn are_digits(text: &[u8]) -> bool
     text.iter().all(|b| is_digit(*b))
 }
 
-/// The last segment of a path.
 fn last_segment(path: &str) -> &str
     ensures { result.now ≡ last_segment path.now }
 {

@@ -154,7 +154,6 @@ fn own_tests(alloc: Global, members: &[(u32, &FileFact)], name: &str) -> Mem<Seq
     Ok(own)
 }
 
-/// The names of packages, by their paths.
 fn name_by_path(alloc: Global, packages: &[Package]) -> Mem<BTreeMap<String, String>>
     ensures paths { IfOk result (λ names. (path : List ℕ) → is_some (get_by_text names path)
         ≡ list_any (λ p. bytes_eq path p.path) packages.now) }

@@ -29,7 +29,6 @@ fn first_value(alloc: Global, query: &str, name: &str) -> Mem<Option<Txt>>
     Ok(None)
 }
 
-/// Whether a text is of digits alone.
 fn is_digits(text: &str) -> bool
     ensures { result ≡ list_all is_ascii_digit text.now }
 {

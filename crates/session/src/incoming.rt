@@ -42,6 +42,8 @@ fn read_piece<L: Link>(link: &mut L, heads: &mut Heads) -> Result<(), Failed>
     if count == 0 {
         heads.end();
     } else {
+        // All of it is taken: fewer than `MAX_HEAD_BYTES` are held, and `MAX_REST_BYTES` leave room
+        // for a whole piece behind these.
         let _ = heads.feed(&piece[..count]);
     }
     Ok(())

@@ -113,7 +113,6 @@ fn note_of_named(text: &str) -> Option<&str>
     }
 }
 
-/// The note on a bug that a text is.
 fn note_of(text: &str) -> Option<&str>
     ensures { MatchOption result (bug_of text.now ≡ None)
         (λ note. bug_of text.now ≡ Some note.now) }

@@ -26,7 +26,6 @@ fn is_notice(text: &[u8]) -> bool
         || begins_in_any_case("author", text)
 }
 
-/// The synopsis of a paragraph.
 fn synopsis_of_paragraph(alloc: Global, text: &str) -> Mem<Txt>
     ensures { IfOk result (λ synopsis. synopsis ≡ synopsis_of_sentence (first_sentence text.now)) }
 {

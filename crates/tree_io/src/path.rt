@@ -20,7 +20,6 @@ pub fn belongs(path: &str) -> bool
         && has_source_segments(path)
 }
 
-/// Whether a path ends in `.go`.
 fn has_go_suffix(path: &str) -> bool
     ensures { result ≡ ends_with nat_eq path.now (codes ".go") }
 {

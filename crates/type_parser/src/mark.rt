@@ -7,14 +7,12 @@ ghost use Rattle.go_ast.specs.Marks as spec;
 use go_ast::{Mark, Mem, Span, Token, TokenKind, TokenRange, Word};
 use std::alloc::Global;
 
-/// Whether a text is this one.
 fn is(text: &[u8], known: &str) -> bool
     ensures { result ≡ bytes_eq text.now known.now }
 {
     text == known.as_bytes()
 }
 
-/// What a keyword is.
 #[tactic(auto, unfolding(go_ast::specs::Marks::keyword_marks))]
 fn keyword_mark(text: &[u8]) -> Mark
     ensures { result ≡ spec.mark_among spec.keyword_marks text.now }
@@ -44,7 +42,6 @@ fn keyword_mark(text: &[u8]) -> Mark
     }
 }
 
-/// What an operator is.
 #[tactic(auto, unfolding(go_ast::specs::Marks::operator_marks))]
 fn operator_mark(text: &[u8]) -> Mark
     ensures { result ≡ spec.mark_among spec.operator_marks text.now }
@@ -82,7 +79,6 @@ fn operator_mark(text: &[u8]) -> Mark
     }
 }
 
-/// What a token of this kind and text is.
 #[tactic(auto, unfolding(go_ast::specs::Marks::mark_of))]
 fn mark_of(kind: TokenKind, text: &[u8]) -> Mark
     ensures { result ≡ spec.mark_of kind text.now }

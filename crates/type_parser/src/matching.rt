@@ -17,7 +17,6 @@ pub struct Matched {
     pub inside: usize,
 }
 
-/// The last of some numbers, or 0.
 fn last_or_zero(numbers: &[usize]) -> usize
     ensures { result ≡ get_or (reverse numbers.now) 0 0 }
 {

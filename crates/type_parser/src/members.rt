@@ -39,7 +39,6 @@ fn is_method(name: &Word, words: &Words<'_>) -> bool
     }
 }
 
-/// Whether the last word is a bar.
 #[tactic(auto, using(crate::proofs::FieldNames::bar_is))]
 fn ends_with_bar(words: &Words<'_>) -> bool
     ensures { result ≡ members.ends_with_bar words.now }

@@ -26,7 +26,6 @@ fn kind_of(text: &str) -> TokenKind {
     }
 }
 
-/// The tokens of a text.
 fn scanned(alloc: Global, text: &str) -> Mem<Scanned> {
     let mut tokens = Seq::new(alloc);
     let mut start = 0u32;

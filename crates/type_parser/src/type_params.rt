@@ -92,7 +92,6 @@ fn is_one_piece(words: &Words<'_>) -> bool
     rest.is_empty()
 }
 
-/// Whether the last word is a comma.
 #[tactic(auto, using(crate::proofs::Pieces::comma_is))]
 fn ends_with_comma(words: &Words<'_>) -> bool
     ensures { result ≡ rule.ends_with_comma words.now }
@@ -103,7 +102,6 @@ fn ends_with_comma(words: &Words<'_>) -> bool
     }
 }
 
-/// Whether the second word is `*` or `(`.
 fn second_is_star_or_paren(words: &Words<'_>) -> bool
     ensures { result ≡ rule.second_is_star_or_paren words.now }
 {
