@@ -17,7 +17,7 @@ use std::io::{ErrorKind, Read, Write};
 #[derive(Drop)]
 pub struct StdSource<R: Input> {
     reader: R::Reader,
-    faults: FaultCount,
+    pub(crate) faults: FaultCount,
 }
 
 impl<R: Input + Drop> StdSource<R> {
@@ -47,7 +47,7 @@ impl<R: Input> Source for StdSource<R> {
 #[derive(Drop)]
 pub struct StdSink<R: Print> {
     rt: R,
-    faults: FaultCount,
+    pub(crate) faults: FaultCount,
 }
 
 impl<R: Print> StdSink<R> {

@@ -6,6 +6,7 @@ use super::standard::{read_from, write_to};
 use super::*;
 use plain_data::Failed;
 use std::alloc::{AllocError, Allocator, Global};
+use std::cell::Cell;
 use std::fmt::Display;
 use std::io;
 use std::io::{BufRead, ErrorKind, Lines, Read, Write};
@@ -200,27 +201,28 @@ impl Print for Canned {
     }
 }
 
-// What the calls of a stream come to, one after another: a count of bytes, or an error.
+// What the calls of a stream come to, one after another: a count of bytes, or an error. As a runtime
+// it has such a standard input and such a standard output.
 #[derive(Drop)]
 struct Scripted {
-    calls: Vec<Result<usize, ErrorKind>>,
-    next: usize,
+    calls: &'static [Result<usize, ErrorKind>],
+    next: Cell<usize>,
 }
 
 impl Scripted {
-    fn new(alloc: Global, calls: &[Result<usize, ErrorKind>]) -> Result<Scripted, AllocError> {
-        Ok(Scripted {
-            calls: Vec::from_slice(alloc, calls)?,
-            next: 0,
-        })
+    fn new(calls: &'static [Result<usize, ErrorKind>]) -> Scripted {
+        Scripted {
+            calls,
+            next: Cell::new(0),
+        }
     }
 
-    fn next_call(&mut self, room: usize) -> io::Result<usize>
+    fn next_call(&self, room: usize) -> io::Result<usize>
         ensures { IfOk result (λ count. count ≤ room) }
     {
-        let call = self.calls.get(self.next).copied().unwrap_or(Ok(0));
-        self.next = self.next.saturating_add(1);
-        match call {
+        let place = self.next.get();
+        self.next.set(place.saturating_add(1));
+        match self.calls.get(place).copied().unwrap_or(Ok(0)) {
             Ok(count) => Ok(count.min(room)),
             Err(kind) => Err(io::Error::from(kind)),
         }
@@ -233,6 +235,14 @@ impl Read for Scripted {
     }
 }
 
+impl BufRead for Scripted {
+    fn fill_buf(&mut self) -> io::Result<&[u8]> {
+        Ok(&[])
+    }
+
+    fn consume(&mut self, _: usize) {}
+}
+
 impl Write for Scripted {
     fn write(&mut self, piece: &[u8]) -> io::Result<usize> {
         self.next_call(piece.len())
@@ -243,18 +253,53 @@ impl Write for Scripted {
     }
 }
 
+impl Input for Scripted {
+    type Reader = Scripted;
+
+    fn read_line<A: Allocator + Clone>(&self, _: &mut String<A>) -> io::Result<usize> {
+        Ok(0)
+    }
+
+    fn lines<A: Allocator>(&self, alloc: A) -> Lines<Scripted, A> {
+        BufRead::lines(self.reader(), alloc)
+    }
+
+    fn reader(&self) -> Scripted {
+        Scripted::new(self.calls)
+    }
+}
+
+impl Print for Scripted {
+    fn print<D: Display + Drop>(&self, _: D) -> io::Result<()> {
+        Ok(())
+    }
+
+    fn println<D: Display + Drop>(&self, _: D) -> io::Result<()> {
+        Ok(())
+    }
+
+    fn write_all(&self, _: &[u8]) -> io::Result<()> {
+        Ok(())
+    }
+
+    fn write_some(&self, piece: &[u8]) -> io::Result<usize> {
+        self.next_call(piece.len())
+    }
+}
+
+const CALLS: &[Result<usize, ErrorKind>] = &[
+    Err(ErrorKind::Interrupted),
+    Err(ErrorKind::Interrupted),
+    Ok(1),
+    Err(ErrorKind::BrokenPipe),
+    Ok(2),
+    Ok(0),
+];
+
 #[test]
-fn a_signal_is_no_fault_and_an_error_is_one(rt: HostRuntime) -> Result<(), Fail> {
-    let calls = [
-        Err(ErrorKind::Interrupted),
-        Err(ErrorKind::Interrupted),
-        Ok(1),
-        Err(ErrorKind::BrokenPipe),
-        Ok(2),
-        Ok(0),
-    ];
-    let mut reader = Scripted::new(rt.alloc(), calls.as_slice())?;
-    let mut writer = Scripted::new(rt.alloc(), calls.as_slice())?;
+fn a_signal_is_no_fault_and_an_error_is_one(rt: HostRuntime) {
+    let mut reader = Scripted::new(CALLS);
+    let mut writer = Scripted::new(CALLS);
     for (read, written) in [
         (Ok(1), Ok(1)),
         (Err(Failed), Err(Failed)),
@@ -265,7 +310,18 @@ fn a_signal_is_no_fault_and_an_error_is_one(rt: HostRuntime) -> Result<(), Fail>
         assert_eq!(rt; write_to(&mut writer, b"ab"), written);
     }
     assert_eq!(rt; write_to(&mut writer, b""), Ok(0));
-    Ok(())
+}
+
+#[test]
+fn a_failed_call_of_a_standard_stream_is_not_made_again(rt: HostRuntime) {
+    let mut source = StdSource::new(Scripted::new(CALLS));
+    let mut sink = StdSink::new(Scripted::new(CALLS));
+    for (moved, faults) in [(Ok(1), 0), (Err(Failed), 1), (Ok(2), 1)] {
+        assert_eq!(rt; source.read(&mut [0; 2]), moved);
+        assert_eq!(rt; sink.write(b"ab"), moved);
+        assert_eq!(rt; source.faults.get(), faults);
+        assert_eq!(rt; sink.faults.get(), faults);
+    }
 }
 
 #[test]
