@@ -201,8 +201,8 @@ impl Print for Canned {
     }
 }
 
-// What the calls of a stream come to, one after another: a count of bytes, or an error. As a runtime
-// it has such a standard input and such a standard output.
+// What the calls of a stream come to, one after another: a count of bytes, or an error. As a
+// runtime it has such a standard input and such a standard output.
 #[derive(Drop)]
 struct Scripted {
     calls: &'static [Result<usize, ErrorKind>],
