@@ -17,7 +17,7 @@ use crate::chunk::{Chunk, Cut};
 use crate::chunks::chunks_of;
 use crate::clause::clause_in;
 use crate::declarations::{Declared, declarations};
-use go_ast::{Fault, File, MAX_SOURCE_BYTES, Mem, NoMemory, Refused, Scanned, Token};
+use go_ast::{Fault, File, MAX_SOURCE_BYTES, Mem, Refused, Scanned, Token};
 use std::alloc::Global;
 
 /// What the chunks of a file are.
@@ -74,13 +74,6 @@ fn bad_declaration(source: &[u8], tokens: &[Token], chunks: &[Chunk], at: usize)
     Fault::BadDeclaration(at as u32 + 2, line_of(source, offset))
 }
 
-/// The refusal where no memory was had.
-fn no_memory(_error: NoMemory) -> Refused
-    ensures { result ≡ refusals.NoMemory }
-{
-    Refused::NoMemory
-}
-
 /// The file that tokens spell, of which there are fewer than 2^32.
 fn file_in(alloc: Global, source: &[u8], tokens: &[Token]) -> Result<File, Refused>
     requires size { length source.now ≤ MAX_SOURCE_BYTES }
@@ -89,11 +82,11 @@ fn file_in(alloc: Global, source: &[u8], tokens: &[Token]) -> Result<File, Refus
     ensures file { IfOk result (λ file. SpellsFile source.now tokens.now file) }
     ensures fault { IfErr result (RefusedFor source.now tokens.now) }
 {
-    let chunks = match chunks_of(alloc, source, tokens).map_err(no_memory)? {
+    let chunks = match chunks_of(alloc, source, tokens)? {
         Cut::Unbalanced(offset) => return Err(Refused::Fault(Fault::Unbalanced(offset))),
         Cut::Chunks(chunks) => chunks,
     };
-    match file_of(alloc, source, tokens, &chunks).map_err(no_memory)? {
+    match file_of(alloc, source, tokens, &chunks)? {
         Parsed::File(file) => Ok(file),
         Parsed::NoClause => Err(Refused::Fault(Fault::NoPackageClause)),
         Parsed::Bad(at) => Err(Refused::Fault(bad_declaration(source, tokens, &chunks, at))),
