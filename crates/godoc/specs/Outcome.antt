@@ -3,7 +3,7 @@ use Rattle.std.specs.Prelude.{◌≡◌, ℕ, ◌⊎◌, List, ◌++◌, Option,
 use Rattle.corpus.specs.Snapshots.{IsWithinLimits, source_set}
 use Rattle.go_ast.specs.declared.config.Config.{Config}
 use Rattle.link_io.specs.Streams.{Adds}
-use Rattle.tree_io.specs.Entries.{IsScanned}
+use Rattle.tree_io.specs.Entries.{IsScannedFrom}
 use Rattle.tree_io.specs.Scans.{OpensScan}
 use Rattle.tree_io.specs.Sources.{Contents, Sources}
 use Rattle.godoc.specs.declared.status.Status.{Status}
@@ -19,7 +19,7 @@ OpensAtMostOne before now = (now ≡ before) ⊎ OpensScan before now
 pub record FindsFrom (config : Config) (name : List ℕ) (scans : Option (List Contents))
     (before now : ℕ) (text : List ℕ) : Type 0 where
   pub sources : Sources
-  pub scanned : IsScanned scans sources before now
+  pub scanned : IsScannedFrom scans sources before now
   pub within : IsWithinLimits sources
   pub all : IsFindText name (source_set config sources) text
 

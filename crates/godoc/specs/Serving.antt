@@ -8,7 +8,7 @@ use Rattle.link_io.specs.Streams.{Takes, Adds}
 use Rattle.session.specs.declared.session_end.SessionEnd.{SessionEnd}
 use Rattle.session.specs.declared.session_end.SessionEnd.TheVariants as ends
 use Rattle.session.specs.Session.{IsAnswered}
-use Rattle.tree_io.specs.Entries.{IsScanned}
+use Rattle.tree_io.specs.Entries.{IsScannedFrom}
 use Rattle.tree_io.specs.Scans.{OpensScan}
 use Rattle.tree_io.specs.Sources.{Contents}
 use Rattle.godoc.specs.declared.status.Status.{Status}
@@ -19,7 +19,7 @@ use Rattle.godoc.specs.Replies.{reply_of}
 -- limits, and were scanned while the count of read faults went from before to now
 pub record IsEditionOf (config : Config) (scans : Option (List Contents)) (before now : ℕ)
     (edition : Edition) : Type 0 where
-  pub scanned : IsScanned scans edition.sources.entries before now
+  pub scanned : IsScannedFrom scans edition.sources.entries before now
   pub config_is : edition.sources.config ≡ config
   pub own : IsEdition edition
 

@@ -6,7 +6,7 @@ ghost use Rattle.corpus.specs.Corpora.{AreFilesOf};
 ghost use Rattle.corpus.specs.Snapshots.{IsWithinLimits, bytes_of, source_set};
 ghost use Rattle.corpus.specs.declared.snapshot.TheConstants.{MAX_SCAN_BYTES};
 ghost use Rattle.plain_data.specs.Causes.{IsCaused};
-ghost use Rattle.tree_io.specs.Entries.{IsReadSoFar, IsScanned};
+ghost use Rattle.tree_io.specs.Entries.{IsReadSoFar, IsScannedFrom};
 ghost use Rattle.tree_io.specs.Scans.{OpensScan, under_way};
 ghost use Rattle.tree_io.specs.Sources.{IsSources, bytes_at};
 ghost use Rattle.godoc.specs.Defaults.{defaults};
@@ -108,7 +108,7 @@ pub(crate) fn scan_tree<T: Tree>(
     tree: &mut T,
     config: &Config,
 ) -> Result<Corpus, ScanFault>
-    ensures scanned { IfOk result (λ corpus. IsScanned (T.scans tree.new) corpus.sources.entries
+    ensures scanned { IfOk result (λ corpus. IsScannedFrom (T.scans tree.new) corpus.sources.entries
         (T.read_faults tree.old) (T.read_faults tree.new)) }
     ensures config { IfOk result (λ corpus. corpus.sources.config ≡ config.now) }
     ensures refused { IfErr result (IsScanFault (T.scans tree.new)

@@ -7,14 +7,14 @@ use Rattle.std.proofs.lemmas.List.Elements.{All-nil, All-cons, All-append, All-h
 use Rattle.std.proofs.lemmas.List.Sums.{sum_by-append, sum_by-cons}
 use Prim.Native.Nat.{zero, suc}
 use Rattle.plain_data.specs.Causes.{RoseBy}
-use Rattle.tree_io.specs.Path.{Belongs, IsRising, paths_of}
+use Rattle.tree_io.specs.Path.{paths_of}
 use Rattle.tree_io.specs.Sources.{Contents, Sources, IsFrom, bytes_at, entry_of, is_unread, unread_count}
 use Rattle.tree_io.specs.Scans.{IsListed, under_way}
-use Rattle.tree_io.specs.Entries.{IsReadSoFar, IsScanned}
+use Rattle.tree_io.specs.Entries.{IsReadSoFar}
 use Rattle.tree_io.specs.declared.tree.TheConstants.{MAX_FILE_BYTES}
 use Rattle.tree_io.specs.declared.tree.Entry.{Entry}
 use Rattle.tree_io.specs.declared.tree.Entry.TheVariants.{Bytes, Large}
-use Rattle.tree_io.proofs.Reading.{IsKnown-listed, IsReadSoFar-none, IsScannedFrom-read, IsSources-read}
+use Rattle.tree_io.proofs.Reading.{IsKnown-listed, IsReadSoFar-none}
 pub use Rattle.tree_io.proofs.FileMaps.{IsRising-strings}
 
 unread_count-append : (xs ys : Sources) → unread_count (xs ++ ys) ≡ unread_count xs + unread_count ys
@@ -40,14 +40,6 @@ IsReadSoFar-append scans ps qs xs ys a b c f g = record {
   same_paths = map-append (λ (s : List ℕ × Entry). s.0) xs ys ∙ ap (λ l. l ++ paths_of ys) f.same_paths ∙ ap (λ l. ps ++ l) g.same_paths;
   entries = entries-append scans xs ys f.entries g.entries;
   few_unread = rw unread_count-append (RoseBy-add (unread_count xs) (unread_count ys) a b c f.few_unread g.few_unread);
-}
-
--- when all listed paths were read
-pub IsScanned-read : (scans : Option (List Contents)) (paths : List (List ℕ)) (sources : Sources) (before now : ℕ)
-    → All Belongs paths → IsRising paths → IsListed scans paths → IsReadSoFar scans paths sources before now → IsScanned scans sources before now
-IsScanned-read scans paths sources before now belong rising listed read = record {
-  valid = IsSources-read scans paths sources before now belong rising read;
-  told = IsScannedFrom-read scans paths sources before now belong rising listed read;
 }
 
 same_default : (xs : List (List ℕ)) (k : ℕ) (d e : List ℕ) → k < length xs → get_or xs k d ≡ get_or xs k e

@@ -9,8 +9,8 @@ use Rattle.std.proofs.lemmas.List.Sums.{fold_push}
 use Rattle.std.proofs.lemmas.Slice.Eq.{bytes_eq-Decides}
 use Prim.Native.Nat.{zero, suc}
 use Rattle.plain_data.specs.Causes.{Rose}
-use Rattle.tree_io.specs.Path.{Belongs, HasSourcePaths, IsRising, paths_of}
-use Rattle.tree_io.specs.Sources.{Contents, Sources, IsFrom, IsScannedFrom, IsSources, bytes_at, entry_of, is_unread, unread_count, IsReadable}
+use Rattle.tree_io.specs.Path.{HasSourcePaths, paths_of}
+use Rattle.tree_io.specs.Sources.{Contents, Sources, IsFrom, bytes_at, entry_of, is_unread, unread_count, IsReadable}
 use Rattle.tree_io.specs.Scans.{under_way, OpensScan, IsKnown, IsListed, IsReadAs}
 use Rattle.tree_io.specs.Entries.{IsReadSoFar}
 use Rattle.tree_io.specs.declared.tree.Entry.{Entry}
@@ -73,23 +73,6 @@ IsReadSoFar-failed scans paths sources before middle now path so_far rose =
       entries = entries-push scans sources path Unread so_far.entries (next_unread scans path);
       few_unread = rw count (omega (arith, so_far.few_unread));
     }
-
--- what was read of the listed paths is a set of sources
-pub IsSources-read : (scans : Option (List Contents)) (paths : List (List ℕ)) (sources : Sources) (before now : ℕ)
-    → All Belongs paths → IsRising paths → IsReadSoFar scans paths sources before now → IsSources sources
-IsSources-read scans paths sources before now belong rising read = record { belong = rw read.same_paths belong; rising = rw read.same_paths rising }
-
--- when all listed paths were read
-pub IsScannedFrom-read : (scans : Option (List Contents)) (paths : List (List ℕ)) (sources : Sources) (before now : ℕ)
-    → All Belongs paths → IsRising paths → IsListed scans paths → IsReadSoFar scans paths sources before now
-    → IfSome scans (λ told. IsScannedFrom sources (under_way told) before now)
-IsScannedFrom-read None paths sources before now belong rising listed read = tt
-IsScannedFrom-read (Some told) paths sources before now belong rising listed read = record {
-  valid = IsSources-read (Some told) paths sources before now belong rising read;
-  same_paths = read.same_paths ∙ listed;
-  entries = read.entries;
-  few_unread = read.few_unread;
-}
 
 last_of_more : (before : List Contents) (contents : Contents) → under_way (before ++ contents ∷ []) ≡ contents
 last_of_more before contents = get_or_push before contents [] _ (omega (arith, length-append before (contents ∷ [])))

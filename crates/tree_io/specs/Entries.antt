@@ -3,8 +3,8 @@
 use Rattle.std.specs.Prelude.{◌≡◌, ℕ, ◌≤◌, List, length, Option, All, IfSome, ⊤}
 use Rattle.plain_data.specs.Causes.{RoseBy}
 use Rattle.tree_io.specs.Path.{paths_of}
-use Rattle.tree_io.specs.Sources.{Contents, Sources, IsFrom, IsSources, IsScannedFrom, unread_count}
-use Rattle.tree_io.specs.Scans.{under_way}
+use Rattle.tree_io.specs.Sources.{Contents, Sources, IsFrom, IsSources, unread_count}
+use Rattle.tree_io.specs.Scans.{IsListed, under_way}
 use Rattle.tree_io.specs.declared.tree.TheConstants.{MAX_FILE_BYTES}
 use Rattle.tree_io.specs.declared.tree.Entry.{Entry}
 use Rattle.tree_io.specs.declared.tree.Entry.TheVariants.{Bytes}
@@ -17,12 +17,15 @@ pub record IsReadSoFar (scans : Option (List Contents)) (paths : List (List ℕ)
   pub entries : IfSome scans (λ told. All (IsFrom (under_way told)) sources)
   pub few_unread : RoseBy (unread_count sources) before now
 
--- sources of the scan under way: a set of sources, and where scans are told it is scanned from the
--- last of them
-pub record IsScanned (scans : Option (List Contents)) (sources : Sources)
+-- sources that the scan under way gave, while the count of read faults went from before to now: a
+-- set of sources, no more of them `Unread` than that count rose by; where scans are told they have
+-- the paths of the scan under way, and what it has there or `Unread`
+pub record IsScannedFrom (scans : Option (List Contents)) (sources : Sources)
     (before now : ℕ) : Type 0 where
   pub valid : IsSources sources
-  pub told : IfSome scans (λ told. IsScannedFrom sources (under_way told) before now)
+  pub few_unread : RoseBy (unread_count sources) before now
+  pub same_paths : IsListed scans (paths_of sources)
+  pub entries : IfSome scans (λ told. All (IsFrom (under_way told)) sources)
 
 -- an entry that has at most MAX_FILE_BYTES bytes
 abbrev pub IsSmall : Entry → Type 0

@@ -7,3 +7,4 @@ pub mod MemTree
 pub mod FsTree
 -- Cited by private clauses and proofs.
 pub mod Files
+pub mod Walks

@@ -1,10 +1,9 @@
 -- Cited by public clauses. The contents of a tree, the sources that a scan of them gives, and what
--- ties the two. All this is the project's own.
-use Rattle.std.specs.Prelude.{◌≡◌, ℕ, ◌≤◌, Bool, true, false, List, length, Option, All, IsSomeAnd, ◌⊎◌, count_by, if◌then◌else◌, nat_lt}
+-- a read gives of bytes. All this is the project's own.
+use Rattle.std.specs.Prelude.{◌≡◌, ℕ, ◌≤◌, Bool, true, false, List, length, Option, IsSomeAnd, ◌⊎◌, count_by, if◌then◌else◌, nat_lt}
 use Rattle.std.specs.Map.{lookup}
 use Rattle.std.specs.Str.{bytes_eq}
-use Rattle.plain_data.specs.Causes.{RoseBy}
-use Rattle.tree_io.specs.Path.{paths_of, HasSourcePaths}
+use Rattle.tree_io.specs.Path.{HasSourcePaths}
 use Rattle.tree_io.specs.declared.tree.TheConstants.{MAX_FILE_BYTES}
 use Rattle.tree_io.specs.declared.tree.Entry.{Entry}
 use Rattle.tree_io.specs.declared.tree.Entry.TheVariants.{Bytes, Large, Unread}
@@ -46,11 +45,3 @@ unread_count sources = count_by (λ source. is_unread source.1) sources
 -- a path with its entry, after a scan of the contents: `Unread`, or what the contents have there
 abbrev pub IsFrom : Contents → List ℕ × Entry → Type 0
 IsFrom contents source = (source.1 ≡ Unread) ⊎ IsSomeAnd (bytes_at contents source.0) (λ bytes. source.1 ≡ entry_of bytes)
-
--- sources that a scan of the contents gives, during which the count of read faults went from before
--- to now
-pub record IsScannedFrom (sources : Sources) (contents : Contents) (before now : ℕ) : Type 0 where
-  pub valid : IsSources sources
-  pub same_paths : paths_of sources ≡ paths_of contents
-  pub entries : All (IsFrom contents) sources
-  pub few_unread : RoseBy (unread_count sources) before now

@@ -25,8 +25,7 @@ pub(crate) fn read_file<R: Files>(
 {
     let whole = full_path(alloc, root, path)?;
     let length = length_of_file(fs::metadata(rt, whole.as_str()))?;
-    let file = fs::open(rt, whole.as_str())?;
-    read_entry_from(alloc, file, length)
+    read_entry_from(alloc, fs::open(rt, whole.as_str()), length)
 }
 
 /// The length of a file, in bytes, by what the system says of its path.
@@ -42,17 +41,20 @@ pub(crate) fn length_of_file(metadata: io::Result<Metadata>) -> Result<u64, IoFa
     Ok(metadata.len())
 }
 
-/// The entry of the bytes that remain in a reader. At most [`MAX_FILE_BYTES`] and one byte are
-/// read; room is made at once for so many bytes as are expected.
+/// The entry of the bytes that remain in a reader, which may be an error of opening it. At most
+/// [`MAX_FILE_BYTES`] and one byte are read; room is made at once for so many bytes as are
+/// expected.
 pub(crate) fn read_entry_from<R: Read + Drop>(
     alloc: Global,
-    reader: R,
+    reader: io::Result<R>,
     expected: u64,
 ) -> Result<Entry, IoFail>
-    ensures told { IfOk result (λ entry. IfSome (R.remaining reader)
-        (λ bytes. entry ≡ entry_of bytes)) }
+    ensures unopened { IfErr reader (λ error. IsErrAnd result (IsFailOf error)) }
+    ensures told { IfOk reader (λ reader. IfOk result (λ entry. IfSome (R.remaining reader)
+        (λ bytes. entry ≡ entry_of bytes))) }
     ensures readable { IfOk result IsReadable }
 {
+    let reader = reader?;
     let most = MAX_FILE_BYTES as u64;
     let mut bytes = Vec::with_capacity(alloc, expected.min(most) as usize + 1)?;
     let read = reader.take(most + 1).read_to_end(&mut bytes);

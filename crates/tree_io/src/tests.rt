@@ -1,6 +1,5 @@
-ghost use Rattle.std.specs.Prelude.{IfOk, IfSome};
-ghost use Rattle.tree_io.specs.Sources.{IsScannedFrom, IsSources};
-ghost use Rattle.tree_io.specs.Scans.{under_way};
+ghost use Rattle.std.specs.Prelude.{IfOk};
+ghost use Rattle.tree_io.specs.Entries.{IsScannedFrom};
 
 use super::file::read_entry_from;
 use super::place::{full_path, join};
@@ -63,10 +62,8 @@ fn long_path(alloc: Global, length: usize) -> Result<String, Fail> {
 
 /// Scans a tree: lists it and reads each path. A read that fails leaves its entry unread.
 fn scan<T: Tree>(alloc: Global, tree: &mut T) -> Result<Seq<(Txt, Entry)>, IoFail>
-    ensures sources { IfOk result IsSources }
-    ensures scanned { IfOk result (λ sources. IfSome (T.scans tree.new)
-        (λ told. IsScannedFrom sources (under_way told)
-        (T.read_faults tree.old) (T.read_faults tree.new))) }
+    ensures { IfOk result (λ sources. IsScannedFrom (T.scans tree.new) sources
+        (T.read_faults tree.old) (T.read_faults tree.new)) }
 {
     if tree.open_scan().is_err() {
         return Err(IoFail::Failed);
@@ -264,7 +261,7 @@ impl Read for Breaking {
 
 /// How many bytes the entry of a reader has that ends so.
 fn length_read(alloc: Global, error: Option<ErrorKind>) -> Result<usize, IoFail> {
-    match read_entry_from(alloc, Breaking { calls: 0, error }, 1)? {
+    match read_entry_from(alloc, Ok(Breaking { calls: 0, error }), 1)? {
         Entry::Bytes(bytes) => Ok(bytes.as_slice().len()),
         Entry::Large | Entry::Unread => Ok(0),
     }
@@ -281,6 +278,18 @@ fn a_file_that_fails_has_no_entry(rt: HostRuntime) {
     }
     let kind = Err(io::Error::from(ErrorKind::PermissionDenied));
     assert_eq!(rt; is_folder(kind), Err(IoFail::Failed));
+}
+
+#[test]
+fn a_file_that_cannot_be_opened_has_no_entry(rt: HostRuntime) {
+    for (kind, wanted) in [
+        (ErrorKind::PermissionDenied, IoFail::Failed),
+        (ErrorKind::OutOfMemory, IoFail::NoMemory),
+    ] {
+        let reader: io::Result<Breaking> = Err(io::Error::from(kind));
+        let fail = read_entry_from(rt.alloc(), reader, 1).err();
+        assert_eq!(rt; fail, Some(wanted));
+    }
 }
 
 #[test]

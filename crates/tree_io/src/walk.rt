@@ -1,9 +1,11 @@
 //! The walk through a real folder.
 
-ghost use Rattle.std.specs.Prelude.{◌≡◌, ◌+◌, ◌-◌, ◌∷◌, [], ◌++◌, ◌⊎◌, ◌≤◌, ◌<◌, ◌↔◌, All, IfErr, IfOk, IsErrAnd, IsOkAnd, IsTrue, MatchResult, OnOk, Err, false, map, string_bytes, vec_len};
-ghost use Rattle.std.specs.Fs.{IsDir};
+ghost use Rattle.std.specs.Prelude.{◌≡◌, ◌≢◌, ◌+◌, ◌-◌, [], ◌≤◌, ◌<◌, ◌↔◌, All, IfErr, IfOk, IsErrAnd, IsOk, IsOkAnd, IsTrue, MatchResult, OnOk, Err, false, map, string_bytes, vec_len};
+ghost use Rattle.std.specs.Fs.{IsDir, dir_entry_name};
+ghost use Rattle.std.specs.declared.fs.attrs.FileType.{FileType};
 ghost use Rattle.plain_data.specs.Causes.{IsFailOf};
 ghost use Rattle.tree_io.specs.Path.{Belongs, IsRising, MayLead, joined};
+ghost use Rattle.tree_io.specs.Walks.{GainsFolder, GainsNothing, GainsPath, Meets};
 
 use crate::path::{belongs, has_path_bytes, is_source_folder};
 use crate::place::{full_path, join};
@@ -120,6 +122,12 @@ fn visit<R: Files + Drop>(
     requires met { walk.old.met ≤ MAX_ENTRIES }
     requires belong { All (λ path. Belongs (string_bytes path)) walk.old.paths.items }
     ensures error { IfErr entry (λ error. IsErrAnd result (IsFailOf error)) }
+    ensures full { IsOk entry → walk.old.met ≡ MAX_ENTRIES → result ≡ Err IoFail.Failed }
+    ensures passed_over { IfOk entry (λ entry. walk.old.met < MAX_ENTRIES
+        → ¬ MayLead (dir_entry_name entry) → IsOk result × GainsNothing walk.old walk.new) }
+    ensures meets { IfOk entry (λ entry. MayLead (dir_entry_name entry)
+        → OnOk result ((kind : FileType)
+        × Meets (joined folder.now (dir_entry_name entry)) kind walk.old walk.new)) }
     ensures met { OnOk result (walk.new.met ≤ MAX_ENTRIES) }
     ensures belong { OnOk result (All (λ path. Belongs (string_bytes path)) walk.new.paths.items) }
     ensures nearer { OnOk result (vec_len walk.new.folders + (MAX_ENTRIES - walk.new.met)
@@ -144,15 +152,11 @@ pub(crate) fn visit_named(
     ensures full { walk.old.met ≡ MAX_ENTRIES → result ≡ Err IoFail.Failed }
     ensures no_kind { walk.old.met < MAX_ENTRIES → MayLead name.now
         → IfErr kind (λ error. IsErrAnd result (IsFailOf error)) }
-    ensures folder { MayLead name.now → IfOk kind (λ kind. IsDir kind
-        → OnOk result (map string_bytes walk.new.folders.items
-        ≡ map string_bytes walk.old.folders.items ++ joined folder.now name.now ∷ [])) }
-    ensures file { MayLead name.now → Belongs (joined folder.now name.now)
-        → IfOk kind (λ kind. ¬ IsDir kind
-        → OnOk result (map string_bytes walk.new.paths.items
-        ≡ map string_bytes walk.old.paths.items ++ joined folder.now name.now ∷ [])) }
-    ensures passed_over { ¬ MayLead name.now
-        → (walk.new.folders ≡ walk.old.folders) × (walk.new.paths ≡ walk.old.paths) }
+    ensures no_fault { walk.old.met < MAX_ENTRIES → IsOk kind → result ≢ Err IoFail.Failed }
+    ensures passed_over { walk.old.met < MAX_ENTRIES → ¬ MayLead name.now
+        → IsOk result × GainsNothing walk.old walk.new }
+    ensures meets { MayLead name.now → IfOk kind (λ kind.
+        OnOk result (Meets (joined folder.now name.now) kind walk.old walk.new)) }
     ensures met { OnOk result (walk.new.met ≡ walk.old.met + 1) }
     ensures in_reach { OnOk result (walk.new.met ≤ MAX_ENTRIES) }
     ensures belong { OnOk result (All (λ path. Belongs (string_bytes path)) walk.new.paths.items) }
@@ -189,12 +193,11 @@ pub(crate) fn is_folder(kind: io::Result<FileType>) -> Result<bool, IoFail>
 fn meet(path: String, is_folder: bool, walk: &mut Walk) -> Mem<()>
     requires belong { All (λ path. Belongs (string_bytes path)) walk.old.paths.items }
     ensures folder { IsTrue is_folder
-        → OnOk result (walk.new.folders.items ≡ walk.old.folders.items ++ path ∷ []) }
-    ensures no_folder { is_folder ≡ false → walk.new.folders ≡ walk.old.folders }
+        → OnOk result (GainsFolder (string_bytes path) walk.old walk.new) }
     ensures file { is_folder ≡ false → Belongs (string_bytes path)
-        → OnOk result (walk.new.paths.items ≡ walk.old.paths.items ++ path ∷ []) }
-    ensures no_file { IsTrue is_folder ⊎ ¬ Belongs (string_bytes path)
-        → walk.new.paths ≡ walk.old.paths }
+        → OnOk result (GainsPath (string_bytes path) walk.old walk.new) }
+    ensures other { is_folder ≡ false → ¬ Belongs (string_bytes path)
+        → GainsNothing walk.old walk.new }
     ensures belong { OnOk result (All (λ path. Belongs (string_bytes path)) walk.new.paths.items) }
     ensures same_met { walk.new.met ≡ walk.old.met }
     ensures folders { vec_len walk.new.folders ≤ vec_len walk.old.folders + 1 }

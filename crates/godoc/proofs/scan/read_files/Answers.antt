@@ -46,7 +46,7 @@ loop-path-preserved g c =
           (λ j. kept.bytes_are j + c.entry_size-bytes.ensures j) ∙ sym (bytes_of-push sources path entry)
           ∙ ap bytes_of (sym pushed);
       within = omega arith;
-      later = omega (arith, ends.later, kept.later);
+      later = omega (arith, ends.cause.later, kept.later);
       same_scans = cc (ends.same_scans, kept.same_scans);
       same_list_faults = cc (ends.same_list_faults, kept.same_list_faults);
     }

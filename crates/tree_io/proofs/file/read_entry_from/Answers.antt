@@ -39,4 +39,4 @@ returns-clause-told g c =
     let told = told_of IsFailOf c.take.result.limit (g.R.Read.remaining c.take.result.inner) c.in_ok-bytes.bytes.items c.read_to_end-read.new.buf.items
     c.read_to_end-read.result c.entry_of_read.result c.take.ensures.limit c.in_ok-bytes.ensures.items
     c.read_to_end-read.ensures.bytes c.entry_of_read.ensures.whole c.entry_of_read.ensures.error in
-    rw c.take.ensures.inner at told
+    rw c.in_ok-reader.was (rw c.take.ensures.inner at told)

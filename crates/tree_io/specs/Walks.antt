@@ -1,0 +1,32 @@
+-- Cited by private contracts: what a walk through a folder does at an entry. The project's own.
+use Rattle.std.specs.Prelude.{◌≡◌, ℕ, List, [], ◌∷◌, ◌++◌, map, string_bytes}
+use Rattle.std.specs.Fs.{IsDir}
+use Rattle.std.specs.declared.fs.attrs.FileType.{FileType}
+use Rattle.tree_io.specs.Path.{Belongs}
+use Rattle.tree_io.specs.declared.walk.Walk.{Walk}
+
+-- the folders that are still to be walked, and the paths found so far
+abbrev pub folders_in : Walk → List (List ℕ)
+folders_in walk = map string_bytes walk.folders.items
+
+abbrev pub paths_in : Walk → List (List ℕ)
+paths_in walk = map string_bytes walk.paths.items
+
+-- a walk gained this folder, this path, or nothing, and no more than that
+pub record GainsFolder (path : List ℕ) (old new : Walk) : Type 0 where
+  pub folders : folders_in new ≡ folders_in old ++ path ∷ []
+  pub paths : paths_in new ≡ paths_in old
+
+pub record GainsPath (path : List ℕ) (old new : Walk) : Type 0 where
+  pub folders : folders_in new ≡ folders_in old
+  pub paths : paths_in new ≡ paths_in old ++ path ∷ []
+
+pub record GainsNothing (old new : Walk) : Type 0 where
+  pub folders : folders_in new ≡ folders_in old
+  pub paths : paths_in new ≡ paths_in old
+
+-- what a walk gained at an entry with this path and of this kind
+pub record Meets (path : List ℕ) (kind : FileType) (old new : Walk) : Type 0 where
+  pub folder : IsDir kind → GainsFolder path old new
+  pub file : ¬ IsDir kind → Belongs path → GainsPath path old new
+  pub other : ¬ IsDir kind → ¬ Belongs path → GainsNothing old new
