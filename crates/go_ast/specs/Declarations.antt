@@ -15,6 +15,7 @@ use Rattle.go_ast.specs.declared.declaration.TypeParam.{TypeParam}
 use Rattle.go_ast.specs.declared.declaration.TypeSpec.{TypeSpec}
 use Rattle.go_ast.specs.declared.declaration.ValueSpec.{ValueSpec}
 use Rattle.go_ast.specs.declared.tree.Signature.{Signature}
+use Rattle.go_ast.specs.declared.tree.TheConstants.{MAX_TYPE_LEVELS}
 use Rattle.go_ast.specs.declared.tree.TypeExpr.{TypeExpr}
 use Rattle.go_ast.specs.declared.token.Span.{Span}
 use Rattle.go_ast.specs.declared.token.TokenRange.{TokenRange}
@@ -86,8 +87,8 @@ pub data AreNames : List Word → List Span → Type 0 where
 -- names, and their type where one is written
 pub data AreTyped : List Word → List Span → Option TypeExpr → Type 0 where
   untyped : {ws : List Word} {names : List Span} → AreNames ws names → AreTyped ws names None
-  typed : {ws : List Word} {names : List Span} {x : TypeExpr} → Declared (Spells 200) ws names x
-      → AreTyped ws names (Some x)
+  typed : {ws : List Word} {names : List Span} {x : TypeExpr}
+      → Declared (Spells MAX_TYPE_LEVELS) ws names x → AreTyped ws names (Some x)
 
 -- names, perhaps with a type, and a value: one or more words after the first `=` outside brackets
 pub data IsAssigned : List Word → ValueSpec → Type 0 where
@@ -105,7 +106,7 @@ pub data IsConstSpec : List Word → ValueSpec → Type 0 where
 -- names and a value, or names and a type ("Variable declarations")
 pub data IsVarSpec : List Word → ValueSpec → Type 0 where
   zeroed : (w : Word) {ws : List Word} {names : List Span} {x : TypeExpr}
-      → split_once m.Equal (w ∷ ws) ≡ None → Declared (Spells 200) (w ∷ ws) names x
+      → split_once m.Equal (w ∷ ws) ≡ None → Declared (Spells MAX_TYPE_LEVELS) (w ∷ ws) names x
       → IsVarSpec (w ∷ ws) (value_spec (range_of w ws) names (Some x) None)
   assigned : {ws : List Word} {spec : ValueSpec} → IsAssigned ws spec → IsVarSpec ws spec
 
@@ -118,15 +119,15 @@ BeginWithParams ws = (inner rest : List Word) × (params : List TypeParam)
 -- that don't hold type parameters belong to the type
 pub data IsTypeSpec : List Word → TypeSpec → Type 0 where
   defined : (name : Word) {ws : List Word} {x : TypeExpr} → name.mark ≡ m.Ident
-      → ¬ (BeginWithParams ws) → Spells 200 ws x
+      → ¬ (BeginWithParams ws) → Spells MAX_TYPE_LEVELS ws x
       → IsTypeSpec (name ∷ ws) (type_spec (range_of name ws) name.span [] false x)
   generic : (name : Word) {ws inner rest : List Word} {params : List TypeParam} {x : TypeExpr}
       → name.mark ≡ m.Ident
       → Encloses m.OpenBracket m.CloseBracket ws inner rest → AreTypeParams inner params
-      → Spells 200 rest x
+      → Spells MAX_TYPE_LEVELS rest x
       → IsTypeSpec (name ∷ ws) (type_spec (range_of name ws) name.span params false x)
   aliased : (name equal : Word) {ws : List Word} {x : TypeExpr} → name.mark ≡ m.Ident
-      → equal.mark ≡ m.Equal → Spells 200 ws x
+      → equal.mark ≡ m.Equal → Spells MAX_TYPE_LEVELS ws x
       → IsTypeSpec (name ∷ equal ∷ ws)
       (type_spec (range_of name (equal ∷ ws)) name.span [] true x)
 
@@ -162,18 +163,18 @@ pub data IsReceiver : List Word → Receiver → Type 0 where
 pub data IsFunction (tokens : TokenRange) (body : Option TokenRange)
     : List Word → FuncDecl → Type 0 where
   plain : (word name : Word) {ws : List Word} {sig : Signature} → word.mark ≡ m.Func
-      → name.mark ≡ m.Ident → IsSignature (Spells 200) ws sig
+      → name.mark ≡ m.Ident → IsSignature (Spells MAX_TYPE_LEVELS) ws sig
       → IsFunction tokens body (word ∷ name ∷ ws) (function tokens name.span None [] sig body)
   generic : (word name : Word) {ws inner rest : List Word} {params : List TypeParam}
       {sig : Signature} → word.mark ≡ m.Func → name.mark ≡ m.Ident
       → Encloses m.OpenBracket m.CloseBracket ws inner rest
-      → Entries (pieces m.Comma inner) params → IsSignature (Spells 200) rest sig
+      → Entries (pieces m.Comma inner) params → IsSignature (Spells MAX_TYPE_LEVELS) rest sig
       → IsFunction tokens body (word ∷ name ∷ ws) (function tokens name.span None params sig body)
   method : (word name : Word) {ws inner entry rest : List Word} {owner : Receiver}
       {sig : Signature} → word.mark ≡ m.Func
       → Encloses m.OpenParen m.CloseParen ws inner (name ∷ rest)
       → pieces m.Comma inner ≡ entry ∷ [] → IsReceiver entry owner
-      → name.mark ≡ m.Ident → IsSignature (Spells 200) rest sig
+      → name.mark ≡ m.Ident → IsSignature (Spells MAX_TYPE_LEVELS) rest sig
       → IsFunction tokens body (word ∷ ws) (function tokens name.span (Some owner) [] sig body)
 
 -- a word that makes a type of the braces after it

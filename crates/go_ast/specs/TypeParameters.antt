@@ -5,6 +5,7 @@ use Rattle.std.specs.Prelude.{◌≡◌, Bool, true, false, ◌&&◌, ◌||◌, 
 use Rattle.std.specs.List.{list_any}
 use Rattle.go_ast.specs.declared.declaration.TypeParam.{TypeParam}
 use Rattle.go_ast.specs.declared.tree.Term.{Term}
+use Rattle.go_ast.specs.declared.tree.TheConstants.{MAX_TYPE_LEVELS}
 use Rattle.go_ast.specs.declared.token.Span.{Span}
 use Rattle.go_ast.specs.declared.word.Word.{Word}
 use Rattle.go_ast.specs.declared.word.Mark.TheVariants as m
@@ -18,11 +19,11 @@ type_param name bound = record { name = name; bound = bound }
 -- entries of names, where a name alone shares the bound of the next
 pub data Entries : List (List Word) → List TypeParam → Type 0 where
   final : (name : Word) {ws : List Word} {xs : List Term} → name.mark ≡ m.Ident
-      → AreTerms (Spells 200) ws xs
+      → AreTerms (Spells MAX_TYPE_LEVELS) ws xs
       → Entries ((name ∷ ws) ∷ []) (type_param name.span xs ∷ [])
   bounded : (name : Word) {ws : List Word} {xs : List Term} {es : List (List Word)}
       {ps : List TypeParam} → name.mark ≡ m.Ident
-      → AreTerms (Spells 200) ws xs → Entries es ps
+      → AreTerms (Spells MAX_TYPE_LEVELS) ws xs → Entries es ps
       → Entries ((name ∷ ws) ∷ es) (type_param name.span xs ∷ ps)
   shared : (name : Word) {es : List (List Word)} {p : TypeParam} {ps : List TypeParam}
       → name.mark ≡ m.Ident → Entries es (p ∷ ps)

@@ -2,6 +2,7 @@
 -- "Types"): a case for each alternative of the grammar, over exactly the words that it takes.
 use Rattle.std.specs.Prelude.{◌≡◌, ◌≢◌, ℕ, zero, suc, Bool, true, false, List, [], ◌∷◌, Option}
 use Rattle.std.specs.Prelude.{Some, None, if◌then◌else◌}
+use Rattle.go_ast.specs.declared.tree.TheConstants.{MAX_TYPE_LEVELS}
 use Rattle.go_ast.specs.declared.tree.TypeExpr.{TypeExpr}
 use Rattle.go_ast.specs.declared.tree.TypeExpr.TheVariants as t
 use Rattle.go_ast.specs.declared.tree.ChanDir.TheVariants as dirs
@@ -186,6 +187,6 @@ unfoldable pub Spells : ℕ → List Word → TypeExpr → Type 0
 Spells zero ws x = ⊥
 Spells (suc levels) ws x = IsType (Spells levels) ws x
 
--- the tokens of a range spell the type, within 200 levels
+-- the tokens of a range spell the type, within the levels that a type may have
 abbrev pub SpellsType : List ℕ → List Token → TokenRange → TypeExpr → Type 0
-SpellsType source tokens range x = Spells 200 (words_of source tokens range) x
+SpellsType source tokens range x = Spells MAX_TYPE_LEVELS (words_of source tokens range) x

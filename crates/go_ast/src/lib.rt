@@ -23,6 +23,6 @@ pub use fault::{Fault, Refused};
 pub use file_copy::{copy_decl, copy_file};
 pub use plain_data::{Bytes, Failed, IoFail, Mem, NoMemory, Seq, Txt};
 pub use token::{Comment, MAX_SOURCE_BYTES, Scanned, Span, Token, TokenKind, TokenRange};
-pub use tree::{ChanDir, Element, Field, Param, Signature, Term, TypeExpr};
+pub use tree::{ChanDir, Element, Field, MAX_TYPE_LEVELS, Param, Signature, Term, TypeExpr};
 pub use tree_copy::{copy_signature, copy_spans, copy_terms, copy_type};
 pub use word::{Mark, Word};

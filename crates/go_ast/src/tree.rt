@@ -7,6 +7,10 @@ use crate::token::{Span, TokenRange};
 use plain_data::Seq;
 use sqlite_items::Boxed;
 
+/// The most levels that a type may have: each form is one level more than its deepest part, and
+/// parentheses are one.
+pub const MAX_TYPE_LEVELS: usize = 200;
+
 /// Which way values go through a channel (Go specification, "Channel types").
 #[derive(Clone, Copy, Debug, PartialEq, Eq)]
 pub enum ChanDir {

@@ -5,6 +5,7 @@ use Rattle.go_ast.specs.declared.declaration.FuncDecl.{FuncDecl}
 use Rattle.go_ast.specs.declared.declaration.Receiver.{Receiver}
 use Rattle.go_ast.specs.declared.token.Span.{Span}
 use Rattle.go_ast.specs.declared.token.TokenRange.{TokenRange}
+use Rattle.go_ast.specs.declared.tree.TheConstants.{MAX_TYPE_LEVELS}
 use Rattle.go_ast.specs.declared.word.Word.{Word}
 use Rattle.go_ast.specs.declared.word.Mark.TheVariants as m
 use Rattle.go_ast.specs.Cutting.{Encloses, pieces}
@@ -185,7 +186,7 @@ module _ (tokens : TokenRange) (body : Option TokenRange) where
   named-sound word name (w ∷ ws) x is is_name e = ⊎_elim
       (λ p. let parts = bind_some (enclosed m.CloseBracket ws)
       (read_generic tokens body name.span) x p.1 in
-      let params = bind_some (read_entries (type_of 200) parts.0.0) _ x parts.2 in
+      let params = bind_some (read_entries (type_of MAX_TYPE_LEVELS) parts.0.0) _ x parts.2 in
       let read = map_some (generic_function tokens body name.span params.0)
       (signature_in parts.0.1) x params.2 in
       subst (IsFunction tokens body (word ∷ name ∷ w ∷ ws)) read.2
@@ -236,7 +237,7 @@ module _ (tokens : TokenRange) (body : Option TokenRange) where
       → read_function tokens body ws ≡ Some x
   unfolding read_function read_named_function
   function-complete _ _ _ (g.plain word name {ws} {sig} is is_name s) =
-      let begun = signature-begins (type_of 200) (Spells 200) ws sig s in
+      let begun = signature-begins (type_of MAX_TYPE_LEVELS) (Spells MAX_TYPE_LEVELS) ws sig s in
       rw (
         begun.2,
         marks_differ name.mark m.OpenParen (λ e. absurd (cc (is_name, e))),

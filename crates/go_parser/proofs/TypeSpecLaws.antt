@@ -3,6 +3,7 @@ use Rattle.std.proofs.Common.{◌≡◌, ◌≢◌, refl, subst, ℕ, zero, suc,
 use Rattle.std.proofs.Common.{List, [], ◌∷◌, Option, Some, None, ⊎_elim}
 use Rattle.go_ast.specs.declared.declaration.TypeParam.{TypeParam}
 use Rattle.go_ast.specs.declared.declaration.TypeSpec.{TypeSpec}
+use Rattle.go_ast.specs.declared.tree.TheConstants.{MAX_TYPE_LEVELS}
 use Rattle.go_ast.specs.declared.tree.TypeExpr.{TypeExpr}
 use Rattle.go_ast.specs.declared.word.Word.{Word}
 use Rattle.go_ast.specs.declared.word.Mark.TheVariants as m
@@ -43,8 +44,8 @@ leading-sound (w ∷ ws) y e =
     let test = guard_some (same_mark w.mark m.OpenBracket)
     (enclosed m.CloseBracket ws >>= params_of) y e in
     let parts = bind_some (enclosed m.CloseBracket ws) params_of y test.1 in
-    let read = map_some (λ params. (params, parts.0.1)) (read_type_params (type_of 200) parts.0.0) y
-    parts.2 in
+    let read = map_some (λ params. (params, parts.0.1))
+    (read_type_params (type_of MAX_TYPE_LEVELS) parts.0.0) y parts.2 in
     let brackets = enclosed-sound m.OpenBracket m.CloseBracket w ws parts.0.0 parts.0.1
     (marks_are w.mark m.OpenBracket test.0) parts.1 in
     subst (λ z. (inner : List Word) × Encloses m.OpenBracket m.CloseBracket (w ∷ ws) inner z.1
@@ -84,13 +85,13 @@ defined-sound name w ws x None is none e =
     subst (IsTypeSpec (name ∷ w ∷ ws)) read.2
     (g.defined name is
     (λ p. absurd (cc (none, leading-complete (w ∷ ws) p.0 p.1 p.2 p.3 p.4)))
-    (type-sound 200 (w ∷ ws) read.0 read.1))
+    (type-sound MAX_TYPE_LEVELS (w ∷ ws) read.0 read.1))
 defined-sound name w ws x (Some (params, rest)) is some e =
     let read = map_some (type_spec (range_of name (w ∷ ws)) name.span params false)
     (type_in rest) x e in
     let found = leading-sound (w ∷ ws) (params, rest) some in
     subst (IsTypeSpec (name ∷ w ∷ ws)) read.2
-    (g.generic name is found.1 found.2 (type-sound 200 rest read.0 read.1))
+    (g.generic name is found.1 found.2 (type-sound MAX_TYPE_LEVELS rest read.0 read.1))
 
 pub type_spec-sound : (ws : List Word) (x : TypeSpec) → read_type_spec ws ≡ Some x
     → IsTypeSpec ws x
@@ -106,7 +107,8 @@ type_spec-sound (name ∷ w ∷ ws) x e =
     ⊎_elim
     (λ p. let read = map_some (type_spec tokens name.span [] true) (type_in ws) x p.1 in
     subst (IsTypeSpec (name ∷ w ∷ ws)) read.2
-    (g.aliased name w is (marks_are w.mark m.Equal p.0) (type-sound 200 ws read.0 read.1)))
+    (g.aliased name w is (marks_are w.mark m.Equal p.0)
+    (type-sound MAX_TYPE_LEVELS ws read.0 read.1)))
     (λ p. defined-sound name w ws x (read_leading_params (w ∷ ws)) is refl p.1)
     (choice (same_mark w.mark m.Equal) (type_spec tokens name.span [] true <$> type_in ws)
     (read_defined tokens name.span (w ∷ ws) (read_leading_params (w ∷ ws))) (Some x) test.1)
@@ -115,12 +117,12 @@ pub type_spec-complete : (ws : List Word) (x : TypeSpec) → IsTypeSpec ws x
     → read_type_spec ws ≡ Some x
 unfolding read_type_spec
 type_spec-complete _ _ (g.defined name {ws = []} {x} is none s) =
-    absurd (cc (type-complete 200 [] x s, (type-reads 200).nothing))
+    absurd (cc (type-complete MAX_TYPE_LEVELS [] x s, (type-reads MAX_TYPE_LEVELS).nothing))
 type_spec-complete _ _ (g.defined name {ws = w ∷ ws} {x} is none s) =
-    let read = type-complete 200 (w ∷ ws) x s in
+    let read = type-complete MAX_TYPE_LEVELS (w ∷ ws) x s in
     rw (
       marks_same name.mark m.Ident is,
-      marks_differ w.mark m.Equal (equal-ends 200 w ws x read),
+      marks_differ w.mark m.Equal (equal-ends MAX_TYPE_LEVELS w ws x read),
       leading-none (w ∷ ws) none,
       read,
     ) refl
@@ -133,13 +135,13 @@ type_spec-complete _ _ (g.generic name {ws} {inner} {rest} {params} {x} is brack
       marks_same name.mark m.Ident is,
       marks_differ begun.0.mark m.Equal (λ e. absurd (cc (begun.3, e))),
       leading,
-      type-complete 200 rest x s,
+      type-complete MAX_TYPE_LEVELS rest x s,
     ) refl
 type_spec-complete _ _ (g.aliased name equal {ws} {x} is is_equal s) =
     rw (
       marks_same name.mark m.Ident is,
       marks_same equal.mark m.Equal is_equal,
-      type-complete 200 ws x s,
+      type-complete MAX_TYPE_LEVELS ws x s,
     ) refl
 
 pub type_spec-alone : StandsAlone read_type_spec IsTypeSpec

@@ -4,6 +4,7 @@ use Rattle.std.proofs.Common.{cond, List, [], ◌∷◌, Option, Some, None, ⊎
 use Rattle.std.proofs.Common.{inr}
 use Rattle.go_ast.specs.declared.declaration.ValueSpec.{ValueSpec}
 use Rattle.go_ast.specs.declared.token.Span.{Span}
+use Rattle.go_ast.specs.declared.tree.TheConstants.{MAX_TYPE_LEVELS}
 use Rattle.go_ast.specs.declared.tree.TypeExpr.{TypeExpr}
 use Rattle.go_ast.specs.declared.word.Word.{Word}
 use Rattle.go_ast.specs.declared.word.Mark.{Mark}
@@ -47,7 +48,7 @@ typed-sound (name ∷ v ∷ vs) y e =
     (typed-sound vs read.0 read.1)))
     (λ p. let read = map_some (one_name name.span) (type_in (v ∷ vs)) y p.1 in
     subst (λ z. AreTyped (name ∷ v ∷ vs) z.0 z.1) read.2
-    (g.typed (types.one name is (type-sound 200 (v ∷ vs) read.0 read.1))))
+    (g.typed (types.one name is (type-sound MAX_TYPE_LEVELS (v ∷ vs) read.0 read.1))))
     (choice (same_mark v.mark m.Comma) (with_name name.span <$> read_typed vs)
     (one_name name.span <$> type_in (v ∷ vs)) (Some y) test.1)
 
@@ -62,14 +63,14 @@ names-complete _ _ (g.more name comma {ws} {names} is is_comma n) =
     ) refl
 
 declared-complete : (ws : List Word) (names : List Span) (x : TypeExpr)
-    → types.Declared (Spells 200) ws names x → read_typed ws ≡ Some (names, Some x)
+    → types.Declared (Spells MAX_TYPE_LEVELS) ws names x → read_typed ws ≡ Some (names, Some x)
 declared-complete _ _ x (types.one name {ws = []} is s) =
-    absurd (cc (type-complete 200 [] x s, (type-reads 200).nothing))
+    absurd (cc (type-complete MAX_TYPE_LEVELS [] x s, (type-reads MAX_TYPE_LEVELS).nothing))
 declared-complete _ _ x (types.one name {ws = w ∷ ws} is s) =
-    let read = type-complete 200 (w ∷ ws) x s in
+    let read = type-complete MAX_TYPE_LEVELS (w ∷ ws) x s in
     rw (
       marks_same name.mark m.Ident is,
-      marks_differ w.mark m.Comma ((type-reads 200).no_comma w ws x read),
+      marks_differ w.mark m.Comma ((type-reads MAX_TYPE_LEVELS).no_comma w ws x read),
       read,
     ) refl
 declared-complete _ _ x (types.more name comma {ws} {names} is is_comma d) =

@@ -13,6 +13,7 @@ use Rattle.go_ast.specs.declared.declaration.TypeParam.{TypeParam}
 use Rattle.go_ast.specs.declared.declaration.TypeSpec.{TypeSpec}
 use Rattle.go_ast.specs.declared.declaration.ValueSpec.{ValueSpec}
 use Rattle.go_ast.specs.declared.tree.Signature.{Signature}
+use Rattle.go_ast.specs.declared.tree.TheConstants.{MAX_TYPE_LEVELS}
 use Rattle.go_ast.specs.declared.tree.TypeExpr.{TypeExpr}
 use Rattle.go_ast.specs.declared.token.Span.{Span}
 use Rattle.go_ast.specs.declared.token.TokenRange.{TokenRange}
@@ -28,10 +29,10 @@ use Rattle.type_parser.specs.Reading.{read_signature}
 use Rattle.type_parser.specs.TypeParams.{read_entries, read_type_params}
 
 abbrev pub type_in : List Word → Option TypeExpr
-type_in ws = type_of 200 ws
+type_in ws = type_of MAX_TYPE_LEVELS ws
 
 abbrev pub signature_in : List Word → Option Signature
-signature_in ws = read_signature (type_of 200) ws
+signature_in ws = read_signature (type_of MAX_TYPE_LEVELS) ws
 
 module _ {A : Type 0} (read : List Word → Option A) where
   -- the specs between semicolons
@@ -109,7 +110,8 @@ read_value_spec constant (w ∷ ws) =
 
 -- type parameters and the words after them
 abbrev pub params_of : List Word × List Word → Option (List TypeParam × List Word)
-params_of (inner, rest) = (λ params. (params, rest)) <$> read_type_params (type_of 200) inner
+params_of (inner, rest) = (λ params. (params, rest))
+    <$> read_type_params (type_of MAX_TYPE_LEVELS) inner
 
 unfoldable pub read_leading_params : List Word → Option (List TypeParam × List Word)
 read_leading_params [] = None
@@ -196,7 +198,7 @@ module _ (tokens : TokenRange) (body : Option TokenRange) where
   method name owner sig = function tokens name (Some owner) [] sig body
 
   abbrev pub read_generic : Span → List Word × List Word → Option FuncDecl
-  read_generic name (inner, rest) = read_entries (type_of 200) inner
+  read_generic name (inner, rest) = read_entries (type_of MAX_TYPE_LEVELS) inner
       >>= λ params. generic_function name params <$> signature_in rest
 
   -- after the name

@@ -6,6 +6,7 @@ use Rattle.go_ast.specs.declared.declaration.TypeParam.{TypeParam}
 use Rattle.go_ast.specs.declared.token.Span.{Span}
 use Rattle.go_ast.specs.declared.tree.Signature.{Signature}
 use Rattle.go_ast.specs.declared.tree.Term.{Term}
+use Rattle.go_ast.specs.declared.tree.TheConstants.{MAX_TYPE_LEVELS}
 use Rattle.go_ast.specs.declared.tree.TypeExpr.{TypeExpr}
 use Rattle.go_ast.specs.declared.word.Word.{Word}
 use Rattle.go_ast.specs.declared.word.Mark.TheVariants as m
@@ -25,7 +26,7 @@ use Rattle.type_parser.proofs.ParamLaws.{signature-sound, signature-complete}
 use Rattle.type_parser.proofs.TypeLaws.{type-sound, type-complete, type-reads}
 
 abbrev f : List Word → Option TypeExpr
-f = type_of 200
+f = type_of MAX_TYPE_LEVELS
 
 -- an entry that is the last
 last-entry : (e : List Word) (p : TypeParam) → reads.entry f e None ≡ Some p
@@ -41,7 +42,7 @@ last-entry (name ∷ w ∷ ws) p e =
     let read = map_some (type_param name.span) (read_terms f (w ∷ ws)) p test.1 in
     subst (λ q. Entries ((name ∷ w ∷ ws) ∷ []) (q ∷ [])) read.2
     (g.final name (marks_are name.mark m.Ident test.0)
-    (terms-sound f (Spells 200) (type-sound 200) (w ∷ ws) read.0 read.1))
+    (terms-sound f (Spells MAX_TYPE_LEVELS) (type-sound MAX_TYPE_LEVELS) (w ∷ ws) read.0 read.1))
 
 -- an entry before others
 earlier-entry : (e : List Word) (p next : TypeParam) (es : List (List Word)) (ps : List TypeParam)
@@ -60,7 +61,8 @@ earlier-entry (name ∷ w ∷ ws) p next es ps others e =
     let read = map_some (type_param name.span) (read_terms f (w ∷ ws)) p test.1 in
     subst (λ q. Entries ((name ∷ w ∷ ws) ∷ es) (q ∷ next ∷ ps)) read.2
     (g.bounded name (marks_are name.mark m.Ident test.0)
-    (terms-sound f (Spells 200) (type-sound 200) (w ∷ ws) read.0 read.1) others)
+    (terms-sound f (Spells MAX_TYPE_LEVELS) (type-sound MAX_TYPE_LEVELS) (w ∷ ws) read.0 read.1)
+    others)
 
 some-entry : (es : List (List Word)) → Entries es [] → ⊥
 some-entry es s = elim s [ ]
@@ -83,14 +85,15 @@ entries-sound e (d ∷ es) ps h =
 
 -- an entry with a bound of its own
 own-bound : (name : Word) (ws : List Word) (xs : List Term) (next : Option TypeParam)
-    → name.mark ≡ m.Ident → AreTerms (Spells 200) ws xs
+    → name.mark ≡ m.Ident → AreTerms (Spells MAX_TYPE_LEVELS) ws xs
     → reads.entry f (name ∷ ws) next ≡ Some (type_param name.span xs)
 unfolding reads.entry
 own-bound name [] xs next is s = elim s [ ]
 own-bound name (w ∷ ws) xs next is s =
     rw (
       marks_same name.mark m.Ident is,
-      terms-complete f (Spells 200) (type-complete 200) (type-reads 200) (w ∷ ws) xs s,
+      terms-complete f (Spells MAX_TYPE_LEVELS) (type-complete MAX_TYPE_LEVELS)
+          (type-reads MAX_TYPE_LEVELS) (w ∷ ws) xs s,
     ) refl
 
 entries-complete : (es : List (List Word)) (ps : List TypeParam) → Entries es ps
@@ -142,20 +145,22 @@ unfolding reads.read_type_params
 read_type_params-complete ws ps s = rw s.not_array (read_entries-complete ws ps s.entries)
 
 pub read_signature-sound : (ws : List Word) (x : Signature) → read_signature f ws ≡ Some x
-    → IsSignature (Spells 200) ws x
-read_signature-sound = signature-sound f (Spells 200) (type-sound 200)
+    → IsSignature (Spells MAX_TYPE_LEVELS) ws x
+read_signature-sound = signature-sound f (Spells MAX_TYPE_LEVELS) (type-sound MAX_TYPE_LEVELS)
 
-pub read_signature-complete : (ws : List Word) (x : Signature) → IsSignature (Spells 200) ws x
-    → read_signature f ws ≡ Some x
-read_signature-complete = signature-complete f (Spells 200) (type-complete 200) (type-reads 200)
+pub read_signature-complete : (ws : List Word) (x : Signature)
+    → IsSignature (Spells MAX_TYPE_LEVELS) ws x → read_signature f ws ≡ Some x
+read_signature-complete = signature-complete f (Spells MAX_TYPE_LEVELS)
+    (type-complete MAX_TYPE_LEVELS) (type-reads MAX_TYPE_LEVELS)
 
 pub read_declared-sound : (ws : List Word) (p : List Span × TypeExpr) → declared f ws ≡ Some p
-    → Declared (Spells 200) ws p.0 p.1
-read_declared-sound = declared-sound f (Spells 200) (type-sound 200)
+    → Declared (Spells MAX_TYPE_LEVELS) ws p.0 p.1
+read_declared-sound = declared-sound f (Spells MAX_TYPE_LEVELS) (type-sound MAX_TYPE_LEVELS)
 
 pub read_declared-complete : (ws : List Word) (names : List Span) (x : TypeExpr)
-    → Declared (Spells 200) ws names x → declared f ws ≡ Some (names, x)
-read_declared-complete = declared-complete f (Spells 200) (type-complete 200) (type-reads 200)
+    → Declared (Spells MAX_TYPE_LEVELS) ws names x → declared f ws ≡ Some (names, x)
+read_declared-complete = declared-complete f (Spells MAX_TYPE_LEVELS)
+    (type-complete MAX_TYPE_LEVELS) (type-reads MAX_TYPE_LEVELS)
 
 -- what a call answers that reads as the program does
 module _ {A : Type 0} (read : List Word → Option A) (S : List Word → A → Type 0) where
@@ -175,14 +180,15 @@ module _ {A : Type 0} (read : List Word → Option A) (S : List Word → A → T
 pub declared-answers : {E : Type 0} (ws : List Word) (r : Result (Option (List Span × TypeExpr)) E)
     → IfOk r (λ o. o ≡ declared f ws)
     → IfOk r (λ o. MatchOption o
-    ((names : List Span) (x : TypeExpr) → Declared (Spells 200) ws names x → ⊥)
-    (λ p. Declared (Spells 200) ws p.0 p.1))
+    ((names : List Span) (x : TypeExpr) → Declared (Spells MAX_TYPE_LEVELS) ws names x → ⊥)
+    (λ p. Declared (Spells MAX_TYPE_LEVELS) ws p.0 p.1))
 declared-answers ws (Ok None) h = λ names x s. absurd (cc (h, read_declared-complete ws names x s))
 declared-answers ws (Ok (Some p)) h = read_declared-sound ws p (sym h)
 declared-answers ws (Err e) h = tt
 
 pub one-declared : (ws : List Word) (xs ys : List Span) (x y : TypeExpr)
-    → Declared (Spells 200) ws xs x → Declared (Spells 200) ws ys y → (xs ≡ ys) × (x ≡ y)
+    → Declared (Spells MAX_TYPE_LEVELS) ws xs x → Declared (Spells MAX_TYPE_LEVELS) ws ys y
+    → (xs ≡ ys) × (x ≡ y)
 one-declared ws xs ys x y s r =
     pair-is xs ys x y (sym (read_declared-complete ws xs x s) ∙ read_declared-complete ws ys y r)
 

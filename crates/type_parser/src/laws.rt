@@ -4,6 +4,7 @@ ghost use Rattle.std.specs.Prelude.{◌≡◌, ◌≤◌, ◌∷◌, ◌↔◌, 
 ghost use Rattle.go_ast.specs.declared.declaration.TypeParam.{TypeParam};
 ghost use Rattle.go_ast.specs.declared.token.Span.{Span};
 ghost use Rattle.go_ast.specs.declared.tree.Signature.{Signature};
+ghost use Rattle.go_ast.specs.declared.tree.TheConstants.{MAX_TYPE_LEVELS};
 ghost use Rattle.go_ast.specs.declared.tree.TypeExpr.{TypeExpr};
 ghost use Rattle.go_ast.specs.declared.word.Mark.{Mark};
 ghost use Rattle.go_ast.specs.declared.word.Word.{Word};
@@ -15,8 +16,8 @@ ghost use Rattle.type_parser.specs.Cut.{enclosed};
 
 /// Words spell at most one type. The call does nothing.
 pub fn spelled_once()
-    ensures { (words : List Word) (x y : TypeExpr) → Spells 200 words x → Spells 200 words y
-        → x ≡ y }
+    ensures { (words : List Word) (x y : TypeExpr) → Spells MAX_TYPE_LEVELS words x
+        → Spells MAX_TYPE_LEVELS words y → x ≡ y }
 {}
 
 /// What words spell within some levels they spell within more, and no other type is spelled within
@@ -30,16 +31,18 @@ pub fn levels_agree()
 
 /// Words spell at most one signature. The call does nothing.
 pub fn signature_spelled_once()
-    ensures { (words : List Word) (x y : Signature) → IsSignature (Spells 200) words x
-        → IsSignature (Spells 200) words y → x ≡ y }
+    ensures { (words : List Word) (x y : Signature) → IsSignature (Spells MAX_TYPE_LEVELS) words x
+        → IsSignature (Spells MAX_TYPE_LEVELS) words y → x ≡ y }
 {}
 
 /// Words declare at most one list of names, with at most one type. The call does nothing.
 pub fn declared_once()
     ensures names { (words : List Word) (xs ys : List Span) (x y : TypeExpr)
-        → Declared (Spells 200) words xs x → Declared (Spells 200) words ys y → xs ≡ ys }
+        → Declared (Spells MAX_TYPE_LEVELS) words xs x
+        → Declared (Spells MAX_TYPE_LEVELS) words ys y → xs ≡ ys }
     ensures typ { (words : List Word) (xs ys : List Span) (x y : TypeExpr)
-        → Declared (Spells 200) words xs x → Declared (Spells 200) words ys y → x ≡ y }
+        → Declared (Spells MAX_TYPE_LEVELS) words xs x
+        → Declared (Spells MAX_TYPE_LEVELS) words ys y → x ≡ y }
 {}
 
 /// Entries spell at most one list of type parameters, and so do words. The call does nothing.

@@ -9,8 +9,9 @@ use crate::words::matched_words;
 use go_ast::{Mem, Scanned, TokenRange, TypeExpr};
 use std::alloc::Global;
 
-/// The type that the tokens of a range spell in their source, within 200 levels (Go specification,
-/// "Types"). The range counts places in the list of tokens.
+/// The type that the tokens of a range spell in their source, within
+/// [`MAX_TYPE_LEVELS`](go_ast::MAX_TYPE_LEVELS) levels (Go specification, "Types"). The range
+/// counts places in the list of tokens.
 ///
 /// `None` comes exactly where they spell none. `NoMemory` comes where an allocation is refused.
 pub fn parse_type(
