@@ -6,7 +6,7 @@ use Rattle.std.proofs.lemmas.List.Sorted.{IsNonDecreasingBy-push}
 use Rattle.std.specs.List.Sorted.{IsNonDecreasing}
 use mathlib.Core.List.{IsPrefix}
 use Rattle.logbook.specs.declared.tokens.Seen.{Seen}
-use Rattle.publication.specs.View.{EndsWith, IsView, StartsWith}
+use Rattle.publication.specs.View.{EndsWith, IsView, OnlySees, StartsWith}
 use Rattle.publication.specs.Chronicle.{editions_of, IsOpen}
 use Rattle.publication.specs.Readers.{IsTold, IsReader, IsNoted, SeesMore, SeesNothing, Notes, NotesLook, Glimpses, view_by}
 use Rattle.publication.specs.declared.knowledge.Knowledge.{Knowledge}
@@ -245,6 +245,16 @@ module _ {E : Type 0} where
         (subst (λ (l : List (Option E)). StartsWith l seen.log) (sym n.is)
         (seen_later before after seen count known all r s))
 
+    pub only_sees : IsReader after noted number (record known { all = all })
+        → OnlySees (view_by before seen known) (view_by after noted (record known { all = all }))
+    only_sees is = record {
+      opening = refl;
+      later = later;
+      told = refl;
+      closed = refl;
+      view = view_holds after noted number (record known { all = all }) is;
+    }
+
     pub gains : Notes before after → after.entries ≡ before.entries ++ length
         (editions_of noted.log) ∷ []
     gains notes = notes ∙ ap (λ k. before.entries ++ k ∷ [])
@@ -290,6 +300,18 @@ module _ {E : Type 0} where
         looked = subst (All (λ number. (1 ≤ number) × (number ≤ length seen.log)))
             (sym same_looks) r.looked;
       }) step
+
+  pub only_sees-stayed : (before after : Sight E) (seen : Token E) (count : ℕ)
+      (known : Knowledge E) (all : Token E)
+      → IsReader after seen count (record known { all = all })
+      → OnlySees (view_by before seen known) (view_by after seen (record known { all = all }))
+  only_sees-stayed before after seen count known all is = record {
+    opening = refl;
+    later = editions_same seen.log seen.log refl;
+    told = refl;
+    closed = refl;
+    view = view_holds after seen count (record known { all = all }) is;
+  }
 
 -- what holds of an answer, by what it is
 pub ok_of : {T X : Type 0} (r : Result T X) (x : T) (P : Type 0) → r ≡ Ok x → OnOk r P → P

@@ -81,6 +81,15 @@ pub record ShareHistory {E : Type 0} (one other : View E) : Type 0 where
   pub other_seen : StartsWith history other.seen
   pub other_told : StartsWith history other.told
 
+-- What only seeing does to a view, whatever it notes: it is of the same opening, has seen no less,
+-- and was told nothing more.
+pub record OnlySees {E : Type 0} (old new : View E) : Type 0 where
+  pub opening : new.opening ≡ old.opening
+  pub later : StartsWith new.seen old.seen
+  pub told : new.told ≡ old.told
+  pub closed : new.closed ≡ old.closed
+  pub view : IsView new
+
 -- the view gained one entry: that of the newest edition that it has seen
 abbrev pub GainsEntry : {E : Type 0} → View E → View E → Type 0
 GainsEntry old new = new.entries ≡ old.entries ++ length new.seen ∷ []

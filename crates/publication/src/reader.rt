@@ -3,7 +3,7 @@
 ghost use Rattle.std.specs.Prelude.{◌≡◌, ℕ, ◌≤◌, ◌⊎◌, Some, true, false, IsTrue, [], ◌∷◌, ◌++◌, length, IfOk, OnOk, OnErr, ◌||◌};
 ghost use Rattle.std.specs.Arc.{arc_value};
 ghost use Rattle.left_right.specs.Sides.{view as sight};
-ghost use Rattle.publication.specs.View.{EndsWith, GainsEntry, GainsLook, IsView, ShareHistory, StartsWith};
+ghost use Rattle.publication.specs.View.{EndsWith, GainsEntry, GainsLook, IsView, OnlySees, ShareHistory, StartsWith};
 ghost use Rattle.publication.specs.Readers.{Glimpses, IsNoted, IsReader, IsTold, Notes, NotesLook, SeesMore, SeesNothing, history_by, view_by};
 
 use crate::chronicle::Token;
@@ -357,12 +357,8 @@ impl<E: Drop> EditionReader<E> {
         // What stays, whatever the call gives.
         ensures refused { OnErr result ((self.new ≡ self.old) ⊎ (GainsEntry self.old self.new
             × StartsWith self.new.seen self.old.told)) }
-        ensures opening { self.new.opening ≡ self.old.opening }
-        ensures later { StartsWith self.new.seen self.old.seen }
-        ensures told { self.new.told ≡ self.old.told }
-        ensures closed { self.new.closed ≡ self.old.closed }
         ensures looks { self.new.looks ≡ self.old.looks }
-        ensures view { IsView self.new }
+        ensures only_sees { OnlySees self.old self.new }
     {
         let known = self.knowledge.all.again();
         let least = self.knowledge.number;
@@ -391,11 +387,7 @@ impl<E: Drop> EditionReader<E> {
         // What stays, whatever the call gives.
         ensures refused { OnErr result (self.new ≡ self.old) }
         ensures entries { self.new.entries ≡ self.old.entries }
-        ensures opening { self.new.opening ≡ self.old.opening }
-        ensures later { StartsWith self.new.seen self.old.seen }
-        ensures told { self.new.told ≡ self.old.told }
-        ensures closed { self.new.closed ≡ self.old.closed }
-        ensures view { IsView self.new }
+        ensures only_sees { OnlySees self.old self.new }
     {
         let known = self.knowledge.all.again();
         let least = self.knowledge.number;

@@ -2,9 +2,9 @@
 use Rattle.std.proofs.Common.{◌≡◌, ℕ, zero, suc, ◌<◌, ◌≤◌, Bool, List, [], ◌∷◌, ◌++◌, length, Option, Some, refl, sym, ap, ◌∙◌, subst, arith, append_assoc, length-append, get_or}
 use Rattle.std.specs.Prelude.{slice_get, IsSome}
 use Rattle.std.specs.Option.{option_map_or}
-use Rattle.std.proofs.lemmas.List.{get_or_push}
+use Rattle.std.proofs.lemmas.List.{append-nil, get_or_push}
 use Rattle.http_wire.specs.declared.request.Request.{Request}
-use Rattle.publication.specs.View.{View, EndsWith, StartsWith, GainsEntry, IsView}
+use Rattle.publication.specs.View.{View, EndsWith, StartsWith, GainsEntry, IsView, OnlySees}
 use Rattle.session.specs.Text.{Replier, edition_at, reply_by}
 
 -- the view gained one entry, that of the newest edition that it has seen, which is as new as what
@@ -23,6 +23,25 @@ pub StartsWith-then : {E : Type 0} (first second third : List E) → StartsWith 
     → StartsWith third second → StartsWith third first
 StartsWith-then {E} first second third x y =
     (x.0 ++ y.0, y.1 ∙ ap (λ (w : List E). w ++ y.0) x.1 ∙ append_assoc first x.0 y.0)
+
+pub OnlySees-none : {E : Type 0} (view : View E) → IsView view → OnlySees view view
+OnlySees-none view is = record {
+  opening = refl;
+  later = ([], sym (append-nil view.seen));
+  told = refl;
+  closed = refl;
+  view = is;
+}
+
+pub OnlySees-then : {E : Type 0} (old mid new : View E) → OnlySees old mid → OnlySees mid new
+    → OnlySees old new
+OnlySees-then old mid new x y = record {
+  opening = y.opening ∙ x.opening;
+  later = StartsWith-then old.seen mid.seen new.seen x.later y.later;
+  told = y.told ∙ x.told;
+  closed = y.closed ∙ x.closed;
+  view = y.view;
+}
 
 slice_get-push : {E : Type 0} (front : List E) (last : E) → slice_get (front ++ last ∷ [])
     (length front) ≡ Some last

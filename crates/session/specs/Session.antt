@@ -5,7 +5,7 @@ use Rattle.http_wire.specs.declared.request.Request.{Request}
 use Rattle.http_wire.specs.Requests.{Requests, StreamEnd}
 use Rattle.link_io.specs.Streams.{Takes, Adds}
 use Rattle.plain_data.specs.Causes.{IsCaused}
-use Rattle.publication.specs.View.{View, IsView, StartsWith}
+use Rattle.publication.specs.View.{View, OnlySees, StartsWith}
 use Rattle.session.specs.declared.session_end.SessionEnd.{SessionEnd}
 use Rattle.session.specs.declared.session_end.SessionEnd.TheVariants as ends
 use Rattle.session.specs.Text.{Replier, answerable, edition_at, session_text, first_replies, end_of}
@@ -69,10 +69,6 @@ pub record ServesLink {E : Type 0} (reply : Replier E)
   pub session : Session reply remaining remaining_after held held_after old new result
   pub read_faults : IsCaused reads reads_after (result ≡ ends.ReadFault)
   pub write_faults : IsCaused writes writes_after (result ≡ ends.WriteFault)
-  -- the reader stays one of the same opening, and has seen no less
-  pub opening : new.opening ≡ old.opening
-  pub later : StartsWith new.seen old.seen
-  pub told : new.told ≡ old.told
+  -- the reader has seen no less, and has no look more
+  pub only_sees : OnlySees old new
   pub looks : new.looks ≡ old.looks
-  pub closed : new.closed ≡ old.closed
-  pub view : IsView new

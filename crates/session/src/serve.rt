@@ -4,7 +4,7 @@ ghost use Rattle.std.specs.Prelude.{◌≡◌, ℕ, ◌≤◌, ◌≢◌, length
 ghost use Rattle.std.specs.Arc.{arc_value};
 ghost use Rattle.plain_data.specs.Causes.{IsCaused};
 ghost use Rattle.http_wire.specs.Reply.{bad_reply_bytes};
-ghost use Rattle.publication.specs.View.{IsView, StartsWith};
+ghost use Rattle.publication.specs.View.{OnlySees};
 ghost use Rattle.session.specs.Session.{ServesLink, Session};
 ghost use Rattle.session.specs.Steps.{Writes, end_by};
 ghost use Rattle.session.specs.Text.{is_last};
@@ -72,12 +72,8 @@ fn answer_requests<L: Link, E: Drop, R: Responder<E>>(
     ensures write_faults { IsCaused (L.write_faults link.old) (L.write_faults link.new)
         (end_by result ≡ SessionEnd.WriteFault) }
     ensures same_references { L.Source.references link.new ≡ L.Source.references link.old }
-    ensures opening { reader.new.opening ≡ reader.old.opening }
-    ensures later { StartsWith reader.new.seen reader.old.seen }
-    ensures told { reader.new.told ≡ reader.old.told }
     ensures looks { reader.new.looks ≡ reader.old.looks }
-    ensures closed { reader.new.closed ≡ reader.old.closed }
-    ensures view { IsView reader.new }
+    ensures only_sees { OnlySees reader.old reader.new }
 {
     reader.view_holds();
     let mut heads = Heads::new(alloc)?;

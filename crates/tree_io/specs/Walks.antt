@@ -1,4 +1,5 @@
--- Cited by private contracts: what a walk through a folder does at an entry. The project's own.
+-- Cited by private clauses and proofs. What a walk through a folder does at an entry. The
+-- project's own.
 use Rattle.std.specs.Prelude.{◌≡◌, ℕ, List, [], ◌∷◌, ◌++◌, map, string_bytes}
 use Rattle.std.specs.Fs.{IsDir}
 use Rattle.std.specs.declared.fs.attrs.FileType.{FileType}

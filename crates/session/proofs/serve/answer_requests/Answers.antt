@@ -2,7 +2,7 @@
 use Rattle.std.proofs.Common.{⊎_elim, inl, inr, Option, List, ℕ, Err, rules, subst, arith}
 use Rattle.std.proofs.lemmas.Result.{err_from_is_err_and}
 use Rattle.session.proofs.Progress.{Session-full, Session-unanswered, Session-refused, Session-unrefused, Session-closed, Session-clean, Session-unheard, Session-unentered, Progress-more, Session-unbegun}
-use Rattle.session.proofs.ReplyLemmas.{newest_reply, StartsWith-then, known_entry, newest_reply-made}
+use Rattle.session.proofs.ReplyLemmas.{newest_reply, OnlySees-none, OnlySees-then, known_entry, newest_reply-made}
 use Rattle.http_wire.specs.Reply.{bad_reply_bytes}
 use Rattle.link_io.specs.Streams.{Adds}
 use Rattle.session.specs.Steps.{Writes}
@@ -56,15 +56,15 @@ returns-in_err-entered-clause-session g c =
     rw (p.1, p.2, c.next_head.ensures.held)
     (Session-unentered _ _ _ _ _ _ _ _ _ _ _ _ _ c.loop-answered.invariant.progress
     (omega arith) hears (c.next_head.ensures.end c.loop-answered.invariant.end)
-    c.in_err-entered.ensures.later (⊎_elim
-    inl (λ gains. inr (known_entry _ _ c.in_err-entered.ensures.view gains.0 gains.1
-    c.in_err-entered.ensures.told)) c.in_err-entered.ensures.refused))
+    c.in_err-entered.ensures.only_sees.later (⊎_elim
+    inl (λ gains. inr (known_entry _ _ c.in_err-entered.ensures.only_sees.view gains.0 gains.1
+    c.in_err-entered.ensures.only_sees.told)) c.in_err-entered.ensures.refused))
 
 pub returns-in_err-answer-clause-session : goal.returns-in_err-answer-clause-session
 returns-in_err-answer-clause-session g c =
     let hears = rw c.in-Head.is at c.in_ok-request.ensures.hears in
-    let enters = known_entry _ _ c.in_ok-entered.ensures.view c.in_ok-entered.ensures.entry
-    c.in_ok-entered.ensures.informed c.in_ok-entered.ensures.told in
+    let enters = known_entry _ _ c.in_ok-entered.ensures.only_sees.view c.in_ok-entered.ensures.entry
+    c.in_ok-entered.ensures.informed c.in_ok-entered.ensures.only_sees.told in
     let made = newest_reply-made (g.R.Responder.reply_of c.args.site.now) c.enter.new.self
     c.in-Head.request c.is_last-last.result _ _ c.in_ok-entered.ensures.newest
     c.in_ok-entered.ensures.number in
@@ -76,7 +76,7 @@ returns-in_err-answer-clause-session g c =
     rw (p.1, p.2, c.answer.ensures.remaining)
     (Session-unanswered _ _ _ _ _ _ _ _ _ _ _ _ _ _ _ c.loop-answered.invariant.progress
     (omega arith) hears (c.next_head.ensures.end c.loop-answered.invariant.end)
-    enters c.in_ok-entered.ensures.later c.is_last-last.ensures _
+    enters c.in_ok-entered.ensures.only_sees.later c.is_last-last.ensures _
     (subst (λ (w : Option (List ℕ)). Writes (newest_reply (g.R.Responder.reply_of c.args.site.now)
     c.enter.new.self c.in-Head.request c.is_last-last.result) w
     (g.L.Sink.held c.answer.new.link) (Err c.in_err-answer.field-0.0))
@@ -85,8 +85,8 @@ returns-in_err-answer-clause-session g c =
 pub returns-then-request-clause-session : goal.returns-then-request-clause-session
 returns-then-request-clause-session g c =
     let hears = rw c.in-Head.is at c.in_ok-request.ensures.hears in
-    let enters = known_entry _ _ c.in_ok-entered.ensures.view c.in_ok-entered.ensures.entry
-    c.in_ok-entered.ensures.informed c.in_ok-entered.ensures.told in
+    let enters = known_entry _ _ c.in_ok-entered.ensures.only_sees.view c.in_ok-entered.ensures.entry
+    c.in_ok-entered.ensures.informed c.in_ok-entered.ensures.only_sees.told in
     let made = newest_reply-made (g.R.Responder.reply_of c.args.site.now) c.enter.new.self
     c.in-Head.request c.is_last-last.result _ _ c.in_ok-entered.ensures.newest
     c.in_ok-entered.ensures.number in
@@ -95,7 +95,7 @@ returns-then-request-clause-session g c =
     rw c.answer.ensures.remaining
     (Session-closed _ _ _ _ _ _ _ _ _ _ _ _ _ _ _ c.loop-answered.invariant.progress
     (omega arith) hears (c.next_head.ensures.end c.loop-answered.invariant.end)
-    enters c.in_ok-entered.ensures.later c.is_last-last.ensures
+    enters c.in_ok-entered.ensures.only_sees.later c.is_last-last.ensures
     (rw c.next_head.ensures.held at adds) c.if-request.true)
 
 pub loop-answered-init : goal.loop-answered-init
@@ -105,19 +105,15 @@ loop-answered-init g c = record {
   read_faults = search rules;
   write_faults = search rules;
   same_references = search rules;
-  opening = search rules;
-  later = search rules;
-  told = search rules;
   looks = search rules;
-  closed = search rules;
-  view = search rules;
+  only_sees = OnlySees-none _ c.view_holds.ensures;
 }
 
 pub loop-answered-preserved : goal.loop-answered-preserved
 loop-answered-preserved g c =
     let hears = rw c.in-Head.is at c.in_ok-request.ensures.hears in
-    let enters = known_entry _ _ c.in_ok-entered.ensures.view c.in_ok-entered.ensures.entry
-    c.in_ok-entered.ensures.informed c.in_ok-entered.ensures.told in
+    let enters = known_entry _ _ c.in_ok-entered.ensures.only_sees.view c.in_ok-entered.ensures.entry
+    c.in_ok-entered.ensures.informed c.in_ok-entered.ensures.only_sees.told in
     let made = newest_reply-made (g.R.Responder.reply_of c.args.site.now) c.enter.new.self
     c.in-Head.request c.is_last-last.result _ _ c.in_ok-entered.ensures.newest
     c.in_ok-entered.ensures.number in
@@ -126,18 +122,15 @@ loop-answered-preserved g c =
     record {
       progress = rw c.answer.ensures.remaining
           (Progress-more _ _ _ _ _ _ _ _ _ _ _ _ _ _ _ c.loop-answered.invariant.progress hears
-          enters c.in_ok-entered.ensures.later c.is_last-last.ensures
+          enters c.in_ok-entered.ensures.only_sees.later c.is_last-last.ensures
           (rw c.next_head.ensures.held at adds) c.if-request.false);
       end = rw c.answer.ensures.remaining (c.next_head.ensures.end c.loop-answered.invariant.end);
       read_faults = search rules;
       write_faults = search rules;
       same_references = search rules;
-      opening = search rules;
-      later = StartsWith-then _ _ _ c.loop-answered.invariant.later c.in_ok-entered.ensures.later;
-      told = search rules;
       looks = search rules;
-      closed = search rules;
-      view = c.in_ok-entered.ensures.view;
+      only_sees = OnlySees-then _ _ _ c.loop-answered.invariant.only_sees
+          c.in_ok-entered.ensures.only_sees;
     }
 
 pub returns-clause-session : goal.returns-clause-session

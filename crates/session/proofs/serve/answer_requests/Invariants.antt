@@ -1,7 +1,7 @@
 -- So many requests were answered, none of them closes, and the reader of heads has not been told
 -- more than is so.
 use Rattle.std.proofs.Common.{◌≡◌}
-use Rattle.publication.specs.View.{IsView, StartsWith}
+use Rattle.publication.specs.View.{OnlySees}
 use Rattle.session.specs.Incoming.{KnowsEnd}
 use Rattle.session.proofs.Progress.{Progress}
 use Rattle.session.proofs.serve.answer_requests.Given as goal
@@ -15,10 +15,6 @@ invariant-loop-answered g l = record {
   read_faults : g.L.Source.read_faults l.link ≡ g.L.Source.read_faults l.initial.link;
   write_faults : g.L.Sink.write_faults l.link ≡ g.L.Sink.write_faults l.initial.link;
   same_references : g.L.Source.references l.link ≡ g.L.Source.references l.initial.link;
-  opening : l.reader.opening ≡ l.initial.reader.opening;
-  later : StartsWith l.reader.seen l.initial.reader.seen;
-  told : l.reader.told ≡ l.initial.reader.told;
   looks : l.reader.looks ≡ l.initial.reader.looks;
-  closed : l.reader.closed ≡ l.initial.reader.closed;
-  view : IsView l.reader;
+  only_sees : OnlySees l.initial.reader l.reader;
 }

@@ -1,10 +1,10 @@
 -- What a look shows, and what stays.
 use Rattle.std.proofs.Common.{◌≡◌, ◌⊎◌, ◌++◌, ◌∷◌, [], subst, length, true}
 use Rattle.left_right.specs.Sides.{view as sight}
-use Rattle.publication.specs.View.{StartsWith}
+use Rattle.publication.specs.View.{OnlySees, StartsWith}
 use Rattle.publication.specs.Chronicle.{editions_of}
-use Rattle.publication.specs.Readers.{SeesMore, SeesNothing}
-use Rattle.publication.proofs.Reading.{view_holds, stayed, looked, informed, last, later, gains_look, ok_of, if_of, err_of}
+use Rattle.publication.specs.Readers.{SeesMore, SeesNothing, view_by}
+use Rattle.publication.proofs.Reading.{only_sees, only_sees-stayed, stayed, looked, informed, last, gains_look, ok_of, if_of, err_of}
 use Rattle.publication.proofs.reader.EditionReader.look.Goals as goal
 
 pub invariant_of-self : goal.invariant_of-self
@@ -19,9 +19,14 @@ invariant_of-self g c =
     (subst (λ token. SeesNothing before after token all ⊎ SeesMore before after token all)
     c.again-known.ensures step.sees)
 
-pub returns-in_err-sighting-clause-view : goal.returns-in_err-sighting-clause-view
-returns-in_err-sighting-clause-view g c =
-    view_holds _ _ _ _ (invariant_of-self g c)
+pub returns-in_err-sighting-clause-only_sees : goal.returns-in_err-sighting-clause-only_sees
+returns-in_err-sighting-clause-only_sees g c =
+    let after = sight c.look_informed-all.new.reader.place in
+    let all = c.look_informed-all.result.0 in
+    subst (λ view. OnlySees view (view_by after c.self.inside.seen
+    (record c.self.inside.knowledge { all = all }))) c.self.view_is
+    (only_sees-stayed (sight c.self.inside.reader.place) after c.self.inside.seen
+    c.self.inside.count c.self.inside.knowledge all (invariant_of-self g c))
 
 pub invariant_of-self-2 : goal.invariant_of-self-2
 invariant_of-self-2 g c =
@@ -89,8 +94,8 @@ returns-clause-last g c =
     c.in_ok-sighting.sighting.seen c.in_ok-sighting.sighting.count c.self.invariant more noted
     late)
 
-pub returns-clause-later : goal.returns-clause-later
-returns-clause-later g c =
+pub returns-clause-only_sees : goal.returns-clause-only_sees
+returns-clause-only_sees g c =
     let before = sight c.self.inside.reader.place in
     let after = sight c.look_informed-all.new.reader.place in
     let all = c.look_informed-all.result.0 in
@@ -99,11 +104,8 @@ returns-clause-later g c =
     let noted = if_of c.look_informed-all.result.1 c.in_ok-sighting.sighting _ c.in_ok-sighting.was
     c.look_informed-all.ensures.seen in
     let more = subst (λ token. SeesMore before after token all) c.again-known.ensures s.0 in
-    subst (λ view. StartsWith (editions_of c.in_ok-sighting.sighting.seen.log) view.seen)
-    c.self.view_is
-    (later before after c.self.inside.seen c.self.inside.count c.self.inside.knowledge all
-    c.in_ok-sighting.sighting.seen c.in_ok-sighting.sighting.count c.self.invariant more noted)
-
-pub returns-clause-view : goal.returns-clause-view
-returns-clause-view g c =
-    view_holds _ _ _ _ (invariant_of-self-2 g c)
+    subst (λ view. OnlySees view (view_by after c.in_ok-sighting.sighting.seen
+    (record c.self.inside.knowledge { all = all }))) c.self.view_is
+    (only_sees before after c.self.inside.seen c.self.inside.count c.self.inside.knowledge all
+    c.in_ok-sighting.sighting.seen c.in_ok-sighting.sighting.count c.self.invariant more noted
+    (invariant_of-self-2 g c))
