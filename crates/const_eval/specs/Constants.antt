@@ -10,7 +10,8 @@ use Rattle.const_eval.specs.Expressions.{HasValue}
 
 -- what names are worth in the run of a constant: `iota` is the number of its spec
 abbrev pub in_place : ℕ → (List ℕ → ℤ → Type 0) → List ℕ → ℤ → Type 0
-in_place iota names text number = MatchBool (bytes_eq text (codes "iota")) (number ≡ pos iota) (names text number)
+in_place iota names text number =
+    MatchBool (bytes_eq text (codes "iota")) (number ≡ pos iota) (names text number)
 
 -- the constants with this name are this one alone
 abbrev pub IsOnly : List ConstFact → List ℕ → ConstFact → Type 0

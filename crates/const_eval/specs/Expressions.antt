@@ -35,15 +35,19 @@ pub data Part : Type 0 where
 -- the valid trees of each part: binary operators of one precedence go from the left to the right
 pub data IsExpression : Part → Expression → Type 0 where
   one_token : {text : List ℕ} → lexeme_of text ≡ l.Operand → IsExpression an_operand (operand text)
-  in_parentheses : {inner : Expression} → IsExpression a_sum inner → IsExpression an_operand (parenthesized inner)
+  in_parentheses : {inner : Expression} → IsExpression a_sum inner
+      → IsExpression an_operand (parenthesized inner)
   after_unary : {operator : Operator} {inner : Expression} → is_unary operator ≡ true
       → IsExpression an_operand inner → IsExpression an_operand (unary operator inner)
-  one_operand : {single : Expression} → IsExpression an_operand single → IsExpression a_product single
+  one_operand : {single : Expression} → IsExpression an_operand single
+      → IsExpression a_product single
   multiplied : {operator : Operator} {left right : Expression} → is_multiplying operator ≡ true
-      → IsExpression a_product left → IsExpression an_operand right → IsExpression a_product (binary operator left right)
+      → IsExpression a_product left → IsExpression an_operand right
+      → IsExpression a_product (binary operator left right)
   one_product : {single : Expression} → IsExpression a_product single → IsExpression a_sum single
   added : {operator : Operator} {left right : Expression} → is_multiplying operator ≡ false
-      → IsExpression a_sum left → IsExpression a_product right → IsExpression a_sum (binary operator left right)
+      → IsExpression a_sum left → IsExpression a_product right
+      → IsExpression a_sum (binary operator left right)
 
 -- a literal or a name is one level, and each bracket or operator is one more than its deepest
 -- operand
@@ -62,18 +66,23 @@ begins_literal (b ∷ bytes) = is_ascii_digit b || b == single_quote
 -- and other texts what they name. Other literals are worth nothing
 pub data IsOperandWorth (names : List ℕ → ℤ → Type 0) : List ℕ → ℤ → Type 0 where
   an_integer : (literal : Integer) → IsTrue (is_integer literal) → (number : ℤ)
-      → within (pos (integer_value literal)) ≡ Some number → IsOperandWorth names (print_integer literal) number
+      → within (pos (integer_value literal)) ≡ Some number
+      → IsOperandWorth names (print_integer literal) number
   a_rune : (element : Element) → IsTrue (is_element single_quote element) → (number : ℤ)
-      → within (pos (element_value element)) ≡ Some number → IsOperandWorth names (print_rune element) number
-  a_name : (text : List ℕ) (number : ℤ) → begins_literal text ≡ false → names text number → IsOperandWorth names text number
+      → within (pos (element_value element)) ≡ Some number
+      → IsOperandWorth names (print_rune element) number
+  a_name : (text : List ℕ) (number : ℤ) → begins_literal text ≡ false → names text number
+      → IsOperandWorth names text number
 
 -- what a tree is worth: each of its parts has to be worth something
 abbrev pub IsWorth : (List ℕ → ℤ → Type 0) → Expression → ℤ → Type 0
 IsWorth names (operand text) number = IsOperandWorth names text number
 IsWorth names (parenthesized inner) number = IsWorth names inner number
-IsWorth names (unary operator inner) number = (x : ℤ) × IsWorth names inner x × (unary_value operator x ≡ Some number)
+IsWorth names (unary operator inner) number = (x : ℤ) × IsWorth names inner x
+    × (unary_value operator x ≡ Some number)
 IsWorth names (binary operator left right) number =
-    (x : ℤ) × (y : ℤ) × IsWorth names left x × IsWorth names right y × (binary_value operator x y ≡ Some number)
+    (x : ℤ) × (y : ℤ) × IsWorth names left x × IsWorth names right y
+    × (binary_value operator x y ≡ Some number)
 
 -- the texts are an expression of at most 100 levels that is worth this number
 pub record HasValue (names : List ℕ → ℤ → Type 0) (run : List (List ℕ)) (number : ℤ) : Type 0 where

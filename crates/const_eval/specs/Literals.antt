@@ -12,7 +12,8 @@ plain_digit (separated d) = d
 
 -- the base after a "0" and this letter
 abbrev pub base_of : ℕ → ℕ
-base_of letter = if letter == 98 || letter == 66 then 2 else (if letter == 111 || letter == 79 then 8 else 16)
+base_of letter = if letter == 98 || letter == 66 then 2
+    else (if letter == 111 || letter == 79 then 8 else 16)
 
 abbrev pub integer_value : Integer → ℕ
 integer_value lone_zero = 0

@@ -56,7 +56,8 @@ module _ {X : Type 0} (m : Meaning X) where
   abbrev pub go_on : List (Frame X) → X → Lexeme → Option (State X)
   go_on frames x l.Open = None
   go_on frames x l.Close = settle frames x |> close |> having
-  go_on frames x (l.Operator operator) = if is_multiplying operator then Some (f.Product x operator ∷ frames, None)
+  go_on frames x (l.Operator operator) = if is_multiplying operator
+      then Some (f.Product x operator ∷ frames, None)
       else settle frames x |> after_sum operator
   go_on frames x l.Operand = None
 
@@ -73,7 +74,8 @@ module _ {X : Type 0} (m : Meaning X) where
     abbrev pub begin : List (Frame X) → List ℕ → Lexeme → Option (State X)
     begin frames text l.Open = Some (f.Open ∷ frames, None)
     begin frames text l.Close = None
-    begin frames text (l.Operator operator) = if is_unary operator then Some (f.Unary operator ∷ frames, None) else None
+    begin frames text (l.Operator operator) = if is_unary operator
+        then Some (f.Unary operator ∷ frames, None) else None
     begin frames text l.Operand = leaf text |> arrive frames |> having
 
     abbrev pub step : State X → List ℕ → Option (State X)

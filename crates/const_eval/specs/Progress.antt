@@ -25,7 +25,8 @@ abbrev pub count_named : List ConstFact → List ℕ → ℕ
 count_named facts name = sum_by (λ fact. if bytes_eq name fact.name then 1 else 0) facts
 
 abbrev pub AreCounts : List ConstFact → BTreeMap (String Global) ℕ → Type 0
-AreCounts facts counts = (name : List ℕ) → unwrap_or (get_by_text counts name) 0 ≡ count_named facts name
+AreCounts facts counts = (name : List ℕ)
+    → unwrap_or (get_by_text counts name) 0 ≡ count_named facts name
 
 -- the value that a constant is found to have now, where so many have its name
 abbrev pub news_from : ℕ → (List ℕ → Option ℤ) → ConstFact → Option ℤ
@@ -44,20 +45,25 @@ pub record IsKnown (facts : List ConstFact) (known : List ℕ → Option ℤ) : 
 -- how many constants have a name that isn't known
 abbrev pub missing : List ConstFact → (List ℕ → Option ℤ) → ℕ
 missing [] known = 0
-missing (fact ∷ facts) known = if is_some (known fact.name) then missing facts known else suc (missing facts known)
+missing (fact ∷ facts) known = if is_some (known fact.name) then missing facts known
+    else suc (missing facts known)
 
 -- nothing is found at the first places
 abbrev pub IsClosed : List ConstFact → (List ℕ → Option ℤ) → ℕ → Type 0
-IsClosed facts known places = (place : ℕ) (d : ConstFact) → place < places → news_of facts known (slice_index_or facts place d) ≡ None
+IsClosed facts known places = (place : ℕ) (d : ConstFact) → place < places
+    → news_of facts known (slice_index_or facts place d) ≡ None
 
 -- what an attempt at a place changes
-abbrev pub Attempts : List ConstFact → ℕ → BTreeMap (String Global) ℤ → BTreeMap (String Global) ℤ → Bool → Type 0
-Attempts facts place old new true = missing facts (get_by_text new) < missing facts (get_by_text old)
+abbrev pub Attempts : List ConstFact → ℕ → BTreeMap (String Global) ℤ → BTreeMap (String Global) ℤ
+    → Bool → Type 0
+Attempts facts place old new true =
+    missing facts (get_by_text new) < missing facts (get_by_text old)
 Attempts facts place old new false = (new ≡ old)
     × ((d : ConstFact) → news_of facts (get_by_text old) (slice_index_or facts place d) ≡ None)
 
 -- what attempts at the first places change
-abbrev pub Passes : List ConstFact → ℕ → BTreeMap (String Global) ℤ → BTreeMap (String Global) ℤ → Bool → Type 0
+abbrev pub Passes : List ConstFact → ℕ → BTreeMap (String Global) ℤ → BTreeMap (String Global) ℤ
+    → Bool → Type 0
 Passes facts places old new true = missing facts (get_by_text new) < missing facts (get_by_text old)
 Passes facts places old new false = (new ≡ old) × IsClosed facts (get_by_text old) places
 

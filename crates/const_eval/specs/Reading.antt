@@ -16,8 +16,10 @@ use Rattle.const_eval.specs.declared.value.Value.{Value}
 -- digits of a base after those of this value; whether a "_" stands directly before them
 abbrev pub read_digits : ℕ → Bool → ℕ → List ℕ → Option ℕ
 read_digits base marked value [] = if marked then None else Some value
-read_digits base marked value (b ∷ bytes) = if b == underscore then (if marked then None else read_digits base true value bytes)
-    else (if is_digit b base then read_digits base false (value * base + digit_value b) bytes else None)
+read_digits base marked value (b ∷ bytes) = if b == underscore
+    then (if marked then None else read_digits base true value bytes)
+    else (if is_digit b base
+    then read_digits base false (value * base + digit_value b) bytes else None)
 
 -- after a "0" and a letter
 abbrev pub read_based : ℕ → List ℕ → Option ℕ
@@ -26,7 +28,8 @@ read_based letter (b ∷ bytes) = read_digits (base_of letter) false 0 (b ∷ by
 
 abbrev pub read_after_zero : List ℕ → Option ℕ
 read_after_zero [] = Some 0
-read_after_zero (b ∷ bytes) = if is_prefix_letter b then read_based b bytes else read_digits 8 false 0 (b ∷ bytes)
+read_after_zero (b ∷ bytes) = if is_prefix_letter b then read_based b bytes
+    else read_digits 8 false 0 (b ∷ bytes)
 
 abbrev pub read_integer : List ℕ → Option ℕ
 read_integer [] = None
@@ -36,15 +39,18 @@ read_integer (b ∷ bytes) = if b == digit_zero then read_after_zero bytes
 -- after a "\"
 abbrev pub read_escape : List ℕ → Option ℕ
 read_escape [] = None
-read_escape (mark ∷ []) = if is_escape_mark single_quote mark then Some (escape_value mark) else None
-read_escape (b ∷ c ∷ bytes) = if is_octal_escape (b ∷ c ∷ bytes) then Some (value_of 8 (b ∷ c ∷ bytes))
+read_escape (mark ∷ []) = if is_escape_mark single_quote mark then Some (escape_value mark)
+    else None
+read_escape (b ∷ c ∷ bytes) = if is_octal_escape (b ∷ c ∷ bytes)
+    then Some (value_of 8 (b ∷ c ∷ bytes))
     else (if is_hexadecimal_escape b (c ∷ bytes) then Some (value_of 16 (c ∷ bytes)) else None)
 
 -- the first of the characters of a text of so many bytes, where it is the only one and stands for
 -- itself
 abbrev pub only_character : ℕ → List ℕ → Option ℕ
 only_character size [] = None
-only_character size (c ∷ cs) = if is_unquoted single_quote c then (if len_utf8 c == size then Some c else None) else None
+only_character size (c ∷ cs) = if is_unquoted single_quote c
+    then (if len_utf8 c == size then Some c else None) else None
 
 abbrev pub read_character : List ℕ → Option ℕ
 read_character bytes = if is_utf8 bytes then only_character (length bytes) (chars bytes) else None
@@ -71,15 +77,18 @@ as_number found = found |> λ n. within (pos n)
 -- the value of a literal; one that begins with a quote is a rune
 abbrev pub read_literal : List ℕ → Option ℤ
 read_literal [] = None
-read_literal (b ∷ bytes) = if b == single_quote then as_number (read_rune (b ∷ bytes)) else as_number (read_integer (b ∷ bytes))
+read_literal (b ∷ bytes) = if b == single_quote then as_number (read_rune (b ∷ bytes))
+    else as_number (read_integer (b ∷ bytes))
 
 -- what a name is worth, with the number for `iota` where there is one
 abbrev pub name_value : Option ℕ → (List ℕ → Option ℤ) → List ℕ → Option ℤ
 name_value None constants text = constants text
-name_value (Some number) constants text = if bytes_eq text (codes "iota") then Some (pos number) else constants text
+name_value (Some number) constants text = if bytes_eq text (codes "iota") then Some (pos number)
+    else constants text
 
 abbrev pub one_level : ℤ → Value
 one_level number = record { number = number; levels = 1 }
 
 abbrev pub operand_value : (List ℕ → Option ℤ) → List ℕ → Option Value
-operand_value names text = option_map one_level (if begins_literal text then read_literal text else names text)
+operand_value names text =
+    option_map one_level (if begins_literal text then read_literal text else names text)

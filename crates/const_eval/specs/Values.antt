@@ -11,7 +11,8 @@ None |> f = None
 
 -- a number one level above these
 abbrev pub above : ℕ → ℤ → Option Value
-above levels number = if nat_lt levels 100 then Some (record { number = number; levels = suc levels }) else None
+above levels number = if nat_lt levels 100
+    then Some (record { number = number; levels = suc levels }) else None
 
 abbrev pub parenthesize : Value → Option Value
 parenthesize x = above x.levels x.number

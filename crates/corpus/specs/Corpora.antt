@@ -87,7 +87,10 @@ kept files = filter (is_kept files) (accepted files)
 -- a package whose files are named by their numbers, which are given for their places
 abbrev pub renumbered : List ℕ → Package → Package
 renumbered numbers p =
-    record p { files = map (slice_index numbers) p.files; tests = map (slice_index numbers) p.tests }
+    record p {
+      files = map (slice_index numbers) p.files;
+      tests = map (slice_index numbers) p.tests;
+    }
 
 -- the packages that the accepted files make up, with the numbers of the files
 pub record ArePackagesOf (prefix : List ℕ) (files : List JudgedFile) (packages : List Package)

@@ -137,7 +137,8 @@ IsBefore members a b =
     in ordering_then (slice_cmp nat_cmp (key a) (key b)) (nat_cmp a b) ≡ Less
 
 -- the numbers of all members that pass a test, sorted by name, ties in source order
-pub record IsSortedFilter (wanted : Member → Bool) (members : List Member) (numbers : List ℕ) : Type 0 where
+pub record IsSortedFilter (wanted : Member → Bool) (members : List Member)
+    (numbers : List ℕ) : Type 0 where
   pub exactly : (n : ℕ) → Contains numbers n ↔ IsTrue (at_number wanted false members n)
   pub rising : AllPairs (IsBefore members) numbers
 

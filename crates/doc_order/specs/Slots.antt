@@ -40,7 +40,8 @@ with_number doc Methods number = record doc { methods = doc.methods ++ number �
 
 -- the same where it stands under no type
 abbrev pub with_number_of_package : Lists → Kind → ℕ → Lists
-with_number_of_package lists Constants number = record lists { consts = lists.consts ++ number ∷ [] }
+with_number_of_package lists Constants number =
+    record lists { consts = lists.consts ++ number ∷ [] }
 with_number_of_package lists Variables number = record lists { vars = lists.vars ++ number ∷ [] }
 with_number_of_package lists Functions number = record lists { funcs = lists.funcs ++ number ∷ [] }
 with_number_of_package lists Types number = lists

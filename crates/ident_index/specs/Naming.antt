@@ -41,7 +41,8 @@ all_of parts = flat_map (λ part. part) parts
 -- Types, with the names of each part in its place: only the fields of a struct that have names and
 -- the methods of an interface declare names
 
-abbrev pub type_step : TypeExpr-F (List Name) (List Name) (List Name) (List Name) (List Name) (List Name) → List Name
+abbrev pub type_step : TypeExpr-F (List Name) (List Name) (List Name) (List Name) (List Name)
+    (List Name) → List Name
 type_step (TypeExpr-F.Name qualifier name args) = all_of args
 type_step (TypeExpr-F.Pointer elem) = elem
 type_step (TypeExpr-F.Slice elem) = elem
@@ -52,24 +53,30 @@ type_step (TypeExpr-F.Func sig) = sig
 type_step (TypeExpr-F.Struct fields) = all_of fields
 type_step (TypeExpr-F.Interface elements) = all_of elements
 
-abbrev pub param_step : Param-F (List Name) (List Name) (List Name) (List Name) (List Name) (List Name) → List Name
+abbrev pub param_step : Param-F (List Name) (List Name) (List Name) (List Name) (List Name)
+    (List Name) → List Name
 param_step param = param.typ
 
-abbrev pub signature_step : Signature-F (List Name) (List Name) (List Name) (List Name) (List Name) (List Name) → List Name
+abbrev pub signature_step : Signature-F (List Name) (List Name) (List Name) (List Name) (List Name)
+    (List Name) → List Name
 signature_step sig = all_of sig.params ++ all_of sig.results
 
-abbrev pub field_step : Field-F (List Name) (List Name) (List Name) (List Name) (List Name) (List Name) → List Name
+abbrev pub field_step : Field-F (List Name) (List Name) (List Name) (List Name) (List Name)
+    (List Name) → List Name
 field_step field = map (declares kinds.VarName) field.names ++ field.typ
 
-abbrev pub element_step : Element-F (List Name) (List Name) (List Name) (List Name) (List Name) (List Name) → List Name
+abbrev pub element_step : Element-F (List Name) (List Name) (List Name) (List Name) (List Name)
+    (List Name) → List Name
 element_step (Element-F.Method tokens name sig) = declares kinds.MethodName name ∷ sig
 element_step (Element-F.Terms tokens terms) = all_of terms
 
-abbrev pub term_step : Term-F (List Name) (List Name) (List Name) (List Name) (List Name) (List Name) → List Name
+abbrev pub term_step : Term-F (List Name) (List Name) (List Name) (List Name) (List Name)
+    (List Name) → List Name
 term_step term = term.typ
 
 abbrev pub names_of_type : TypeExpr → List Name
-names_of_type = fold-TypeExpr (List Name) (List Name) (List Name) (List Name) (List Name) (List Name)
+names_of_type =
+    fold-TypeExpr (List Name) (List Name) (List Name) (List Name) (List Name) (List Name)
     element_step type_step field_step param_step signature_step term_step
 
 abbrev pub names_of_param : Param → List Name
@@ -77,7 +84,8 @@ names_of_param = fold-Param (List Name) (List Name) (List Name) (List Name) (Lis
     element_step type_step field_step param_step signature_step term_step
 
 abbrev pub names_of_signature : Signature → List Name
-names_of_signature = fold-Signature (List Name) (List Name) (List Name) (List Name) (List Name) (List Name)
+names_of_signature =
+    fold-Signature (List Name) (List Name) (List Name) (List Name) (List Name) (List Name)
     element_step type_step field_step param_step signature_step term_step
 
 abbrev pub names_of_field : Field → List Name
@@ -85,7 +93,8 @@ names_of_field = fold-Field (List Name) (List Name) (List Name) (List Name) (Lis
     element_step type_step field_step param_step signature_step term_step
 
 abbrev pub names_of_element : Element → List Name
-names_of_element = fold-Element (List Name) (List Name) (List Name) (List Name) (List Name) (List Name)
+names_of_element =
+    fold-Element (List Name) (List Name) (List Name) (List Name) (List Name) (List Name)
     element_step type_step field_step param_step signature_step term_step
 
 abbrev pub names_of_term : Term → List Name
@@ -113,7 +122,8 @@ names_of_value kind spec = map (declares kind) spec.names ++ names_if_any spec.t
 
 abbrev pub names_of_type_spec : TypeSpec → List Name
 names_of_type_spec spec =
-    declares kinds.TypeName spec.name ∷ flat_map names_of_type_param spec.params ++ names_of_type spec.typ
+    declares kinds.TypeName spec.name ∷ flat_map names_of_type_param spec.params
+    ++ names_of_type spec.typ
 
 -- a function with a receiver is a method
 abbrev pub func_kind : Option Receiver → HitKind

@@ -22,7 +22,8 @@ abbrev pub has_group : BTreeMap (Bor (List ℕ)) (Vec Hit) → List ℕ → Bool
 has_group groups name = is_some (get_by (λ k. slice_cmp nat_cmp name k.now) groups)
 
 -- gathered are exactly these hits, under their names
-pub record HasGroups (groups : BTreeMap (Bor (List ℕ)) (Vec Hit)) (named : List NamedHit) : Type 0 where
+pub record HasGroups (groups : BTreeMap (Bor (List ℕ)) (Vec Hit))
+    (named : List NamedHit) : Type 0 where
   pub hits : (name : List ℕ) → hits_in groups name ≡ hits_named name named
   pub names : (name : List ℕ)
       → has_group groups name ≡ list_any (bytes_eq name) (map (λ n. n.name) named)

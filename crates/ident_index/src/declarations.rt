@@ -24,7 +24,8 @@ fn names_if_any(names: &mut Vec<Name>, typ: &Option<TypeExpr>) -> Mem<()>
 }
 
 fn type_param_names(names: &mut Vec<Name>, params: &Seq<TypeParam>) -> Mem<()>
-    ensures { OnOk result (names.new.items ≡ names.old.items ++ flat_map names_of_type_param params.now) }
+    ensures { OnOk result (names.new.items
+        ≡ names.old.items ++ flat_map names_of_type_param params.now) }
 {
     for param in params.as_slice() {
         terms_names(names, &param.bound)?;
@@ -46,7 +47,8 @@ fn import_name(names: &mut Vec<Name>, local: ImportName) -> Mem<()>
 }
 
 fn import_names(names: &mut Vec<Name>, specs: &Seq<ImportSpec>) -> Mem<()>
-    ensures { OnOk result (names.new.items ≡ names.old.items ++ flat_map names_of_import specs.now) }
+    ensures { OnOk result (names.new.items
+        ≡ names.old.items ++ flat_map names_of_import specs.now) }
 {
     for spec in specs.as_slice() {
         import_name(names, spec.local)?;
@@ -55,7 +57,8 @@ fn import_names(names: &mut Vec<Name>, specs: &Seq<ImportSpec>) -> Mem<()>
 }
 
 fn value_names(names: &mut Vec<Name>, specs: &Seq<ValueSpec>, kind: HitKind) -> Mem<()>
-    ensures { OnOk result (names.new.items ≡ names.old.items ++ flat_map (names_of_value kind) specs.now) }
+    ensures { OnOk result (names.new.items
+        ≡ names.old.items ++ flat_map (names_of_value kind) specs.now) }
 {
     for spec in specs.as_slice() {
         push_names(names, spec.names.as_slice(), kind)?;
@@ -65,7 +68,8 @@ fn value_names(names: &mut Vec<Name>, specs: &Seq<ValueSpec>, kind: HitKind) -> 
 }
 
 fn type_spec_names(names: &mut Vec<Name>, specs: &Seq<TypeSpec>) -> Mem<()>
-    ensures { OnOk result (names.new.items ≡ names.old.items ++ flat_map names_of_type_spec specs.now) }
+    ensures { OnOk result (names.new.items
+        ≡ names.old.items ++ flat_map names_of_type_spec specs.now) }
 {
     for spec in specs.as_slice() {
         names.push((spec.name.start, HitKind::TypeName))?;

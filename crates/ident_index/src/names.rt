@@ -53,7 +53,8 @@ fn types_names(names: &mut Vec<Name>, types: &Seq<TypeExpr>) -> Mem<()>
 
 #[cycle(declaring)]
 fn params_names(names: &mut Vec<Name>, params: &Seq<Param>) -> Mem<()>
-    ensures { OnOk result (names.new.items ≡ names.old.items ++ flat_map names_of_param params.now) }
+    ensures { OnOk result (names.new.items
+        ≡ names.old.items ++ flat_map names_of_param params.now) }
 {
     for param in params.as_slice() {
         type_names(names, &param.typ)?;
@@ -71,7 +72,8 @@ pub(crate) fn signature_names(names: &mut Vec<Name>, sig: &Signature) -> Mem<()>
 
 #[cycle(declaring)]
 fn fields_names(names: &mut Vec<Name>, fields: &Seq<Field>) -> Mem<()>
-    ensures { OnOk result (names.new.items ≡ names.old.items ++ flat_map names_of_field fields.now) }
+    ensures { OnOk result (names.new.items
+        ≡ names.old.items ++ flat_map names_of_field fields.now) }
 {
     for field in fields.as_slice() {
         push_names(names, field.names.as_slice(), HitKind::VarName)?;
@@ -82,7 +84,8 @@ fn fields_names(names: &mut Vec<Name>, fields: &Seq<Field>) -> Mem<()>
 
 #[cycle(declaring)]
 fn elements_names(names: &mut Vec<Name>, elements: &Seq<Element>) -> Mem<()>
-    ensures { OnOk result (names.new.items ≡ names.old.items ++ flat_map names_of_element elements.now) }
+    ensures { OnOk result (names.new.items
+        ≡ names.old.items ++ flat_map names_of_element elements.now) }
 {
     for element in elements.as_slice() {
         element_names(names, element)?;

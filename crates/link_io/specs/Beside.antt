@@ -12,6 +12,7 @@ abbrev pub nothing : Beside
 nothing = record { bytes = None; faults = 0 }
 
 -- a call left what stands beside a stream, and the references in it
-pub record Leaves {Stream : Type 0} (beside : Stream → Beside) (references : Stream → List ℕ) (old new : Stream) : Type 0 where
+pub record Leaves {Stream : Type 0} (beside : Stream → Beside) (references : Stream → List ℕ)
+    (old new : Stream) : Type 0 where
   pub alone : beside new ≡ beside old
   pub same_references : references new ≡ references old

@@ -44,22 +44,33 @@ stop_of position cuts end = fold min end (filter (λ cut. nat_lt position cut) c
 -- how many bytes a read moves into a buffer of this length
 abbrev pub count_of : SourceState → ℕ → ℕ
 count_of source length_of_buffer =
-    min length_of_buffer (stop_of source.position source.cuts (length source.bytes) - source.position)
+    min length_of_buffer
+    (stop_of source.position source.cuts (length source.bytes) - source.position)
 
 -- what a read did: old and new are the source, before and after are the buffer
-pub record Reads {E : Type 0} (old new : SourceState) (before after : List ℕ) (result : Result ℕ E) : Type 0 where
+pub record Reads {E : Type 0} (old new : SourceState) (before after : List ℕ)
+    (result : Result ℕ E) : Type 0 where
   pub fails : IsErr result ↔ NextFails old.calls
   pub count : IfOk result (λ n. n ≡ count_of old (length before))
   pub moved : IfOk result (λ n. after ≡ take n (drop old.position old.bytes) ++ drop n before)
-  pub ok : IfOk result (λ n. new ≡ record old { position = old.position + n; calls = called old.calls })
-  pub err : OnErr result (new ≡ record old { calls = called old.calls; faults = one_more old.faults })
+  pub ok : IfOk result (λ n. new
+      ≡ record old { position = old.position + n; calls = called old.calls })
+  pub err : OnErr result (new ≡ record old {
+    calls = called old.calls;
+    faults = one_more old.faults;
+  })
   pub same_buffer : OnErr result (after ≡ before)
 
 -- what a write of a piece did: it fails where its number says so, and else only where the bytes
 -- that it takes find no memory
-pub record Writes {E : Type 0} (old new : SinkState) (piece : List ℕ) (result : Result ℕ E) : Type 0 where
+pub record Writes {E : Type 0} (old new : SinkState) (piece : List ℕ)
+    (result : Result ℕ E) : Type 0 where
   pub listed : NextFails old.calls → IsErr result
   pub fails : OnErr result (NextFails old.calls ⊎ (0 < length piece))
   pub count : IfOk result (λ n. n ≡ min (length piece) old.most)
-  pub ok : IfOk result (λ n. new ≡ record old { held = old.held ++ take n piece; calls = called old.calls })
-  pub err : OnErr result (new ≡ record old { calls = called old.calls; faults = one_more old.faults })
+  pub ok : IfOk result (λ n. new
+      ≡ record old { held = old.held ++ take n piece; calls = called old.calls })
+  pub err : OnErr result (new ≡ record old {
+    calls = called old.calls;
+    faults = one_more old.faults;
+  })

@@ -17,7 +17,8 @@ AddsPart before piece after = (n : ℕ) × (n < length piece) × Adds before (ta
 
 -- what one read did to the bytes that remain: it moved the first n to the buffer, none only at
 -- their end or where the buffer has no room, and where it failed it took none
-pub record ReadsInto {E : Type 0} (before after : Option (List ℕ)) (buffer : List ℕ) (result : Result ℕ E) : Type 0 where
+pub record ReadsInto {E : Type 0} (before after : Option (List ℕ)) (buffer : List ℕ)
+    (result : Result ℕ E) : Type 0 where
   pub count : IfOk result (λ n. n ≤ length buffer)
   pub taken : IfOk result (λ n. Takes before (take n buffer) after)
   pub end : IfOk result (λ n. 0 < length buffer → IfSome before (λ bytes. (n ≡ 0) ↔ (bytes ≡ [])))
@@ -25,7 +26,8 @@ pub record ReadsInto {E : Type 0} (before after : Option (List ℕ)) (buffer : L
 
 -- what one write did to the bytes that are held: it added the first n of the piece, at least one
 -- where there is one, and where it failed it added none
-pub record WritesFrom {E : Type 0} (before after : Option (List ℕ)) (piece : List ℕ) (result : Result ℕ E) : Type 0 where
+pub record WritesFrom {E : Type 0} (before after : Option (List ℕ)) (piece : List ℕ)
+    (result : Result ℕ E) : Type 0 where
   pub count : IfOk result (λ n. n ≤ length piece)
   pub progress : IfOk result (λ n. 0 < length piece → 0 < n)
   pub added : IfOk result (λ n. Adds before (take n piece) after)

@@ -86,7 +86,8 @@ type_or packages home name other =
 abbrev pub unqualified : List NamedPackage → ℕ → List ℕ → Target
 unqualified packages home name =
     type_or packages home name
-    (option_map_or Predeclared (first_place name predeclared) (Outside (path_of packages home) name))
+    (option_map_or Predeclared (first_place name predeclared)
+    (Outside (path_of packages home) name))
 
 -- a name in the package with a path
 abbrev pub in_path : List NamedPackage → List ℕ → List ℕ → Target
@@ -98,7 +99,8 @@ in_path packages path name =
 abbrev pub qualified : List NamedPackage → ℕ → ℕ → List ℕ → List ℕ → Target
 qualified packages home file qualifier name =
     option_map_or (λ import. in_path packages import.path name)
-    (find (λ import. bytes_eq qualifier (local_name packages import)) (imports_of packages home file))
+    (find (λ import. bytes_eq qualifier (local_name packages import))
+    (imports_of packages home file))
     (Outside (codes "?" ++ qualifier) name)
 
 -- what a name of a file leads to; an empty qualifier is none

@@ -14,11 +14,13 @@ abbrev pub IsIndex : {A : Type 0} → BTreeMap (String A) ℕ → List (List ℕ
 IsIndex places names = (name : List ℕ) → get_by_text places name ≡ first_place name names
 
 -- the map of the imports of a file, by their local names
-abbrev pub IndexesImports : {A : Type 0} → List NamedPackage → Imports → BTreeMap (String A) ℕ → Type 0
+abbrev pub IndexesImports : {A : Type 0} → List NamedPackage → Imports → BTreeMap (String A) ℕ
+    → Type 0
 IndexesImports packages imports places = IsIndex places (map (local_name packages) imports.list)
 
 -- the tables of a package: its types by their names, and the imports of each of its files
-pub record AreTables (packages : List NamedPackage) (p : NamedPackage) (tables : PackageTables) : Type 0 where
+pub record AreTables (packages : List NamedPackage) (p : NamedPackage)
+    (tables : PackageTables) : Type 0 where
   pub types : IsIndex tables.types p.types
   pub files : AllZip (IndexesImports packages) p.files tables.files.items
 

@@ -6,7 +6,8 @@ use Rattle.piece_crew.specs.declared.order.Bundle.{Bundle}
 use Rattle.piece_crew.specs.declared.order.Piece.{Piece}
 
 -- A worker had its None at a seat of the word, and has an output of each job that it claimed.
-pub record IsWorkedOff {O : Type 0} (gives : ℕ → O → Type 0) (word : Word) (bundle : Bundle O) : Type 0 where
+pub record IsWorkedOff {O : Type 0} (gives : ℕ → O → Type 0) (word : Word)
+    (bundle : Bundle O) : Type 0 where
   pub at_word : bundle.seat.word ≡ word
   pub ended : HasEnded bundle.seat
   pub numbers : bundle.seat.claimed ≡ map (λ piece. piece.number) bundle.pieces.items
@@ -14,7 +15,8 @@ pub record IsWorkedOff {O : Type 0} (gives : ℕ → O → Type 0) (word : Word)
   pub given : All (λ piece. gives piece.number piece.output) bundle.pieces.items
 
 -- The workers had all the seats at one word, for so many jobs.
-pub record AreWorkedOff {O : Type 0} (gives : ℕ → O → Type 0) (count : ℕ) (bundles : List (Bundle O)) : Type 0 where
+pub record AreWorkedOff {O : Type 0} (gives : ℕ → O → Type 0) (count : ℕ)
+    (bundles : List (Bundle O)) : Type 0 where
   pub word : Word
   pub total : word.total ≡ count
   pub some : 0 < word.seats

@@ -24,7 +24,11 @@ fresh word = record { word = word; claimed = []; past = [] }
 
 -- the seat after it claimed a number
 abbrev pub with_claim : Seat → ℕ → Seat
-with_claim seat number = record { word = seat.word; claimed = seat.claimed ++ number ∷ []; past = seat.past }
+with_claim seat number = record {
+  word = seat.word;
+  claimed = seat.claimed ++ number ∷ [];
+  past = seat.past;
+}
 
 -- the one step that was made found the word at the total or past it
 abbrev pub FoundPast : Seat → Seat → Type 0

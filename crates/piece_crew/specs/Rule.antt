@@ -34,42 +34,79 @@ pub record Keeps (terms : Terms) (s : State (Unit {0}) View) : Type 0 where
 
 -- the first view: it stands for all seats
 abbrev pub opened : Terms → View
-opened terms = record { total = terms.total; made = terms.seats; seats = terms.seats; claimed = []; past = [] }
+opened terms = record {
+  total = terms.total;
+  made = terms.seats;
+  seats = terms.seats;
+  claimed = [];
+  past = [];
+}
 
 -- the view after its step found a number below the total, and one at the total or past it
 abbrev pub drew : View → ℕ → View
-drew v n = record { total = v.total; made = v.made; seats = v.seats; claimed = v.claimed ++ n ∷ []; past = v.past }
+drew v n = record {
+  total = v.total;
+  made = v.made;
+  seats = v.seats;
+  claimed = v.claimed ++ n ∷ [];
+  past = v.past;
+}
 
 abbrev pub missed : View → ℕ → View
-missed v n = record { total = v.total; made = v.made; seats = v.seats; claimed = v.claimed; past = v.past ++ n ∷ [] }
+missed v n = record {
+  total = v.total;
+  made = v.made;
+  seats = v.seats;
+  claimed = v.claimed;
+  past = v.past ++ n ∷ [];
+}
 
 -- A number found below the total is claimed, and is above all that this view had. Any other is
 -- noted.
-pub record Draws (st : Step (Unit {0})) (me : Me (Unit {0}) View) (n : ℕ) (me' : Me (Unit {0}) View) : Type 0 where
+pub record Draws (st : Step (Unit {0})) (me : Me (Unit {0}) View) (n : ℕ)
+    (me' : Me (Unit {0}) View) : Type 0 where
   pub drawn : n < me.0.total → (me'.0 ≡ drew me.0 n) × All (λ k. k < n) me.0.claimed
   pub none : me.0.total ≤ n → me'.0 ≡ missed me.0 n
   pub slots : me'.1 ≡ me.1
 
 -- A view that stands for all seats has each number below the word and the total, and all Nones.
-pub record Reads (st : Step (Unit {0})) (me : Me (Unit {0}) View) (n : ℕ) (me' : Me (Unit {0}) View) : Type 0 where
+pub record Reads (st : Step (Unit {0})) (me : Me (Unit {0}) View) (n : ℕ)
+    (me' : Me (Unit {0}) View) : Type 0 where
   pub same : me' ≡ me
-  pub claimed : 0 < me.0.seats → me.0.seats ≡ me.0.made → IsEachBelow (min n me.0.total) me.0.claimed
+  pub claimed : 0 < me.0.seats → me.0.seats ≡ me.0.made
+      → IsEachBelow (min n me.0.total) me.0.claimed
   pub nones : 0 < me.0.seats → me.0.seats ≡ me.0.made → n ≡ min n me.0.total + length me.0.past
 
 -- a view without one of its seats, and the view of that seat
 abbrev pub left : View → View
-left v = record { total = v.total; made = v.made; seats = v.seats - 1; claimed = v.claimed; past = v.past }
+left v = record {
+  total = v.total;
+  made = v.made;
+  seats = v.seats - 1;
+  claimed = v.claimed;
+  past = v.past;
+}
 
 abbrev pub right : View → View
 right v = record { total = v.total; made = v.made; seats = 1; claimed = []; past = [] }
 
 -- the view for the seats of two, and what is left of the second
 abbrev pub joined : View → View → View
-joined v w = record { total = v.total; made = v.made; seats = v.seats + w.seats; claimed = v.claimed ++ w.claimed; past = v.past ++ w.past }
+joined v w = record {
+  total = v.total;
+  made = v.made;
+  seats = v.seats + w.seats;
+  claimed = v.claimed ++ w.claimed;
+  past = v.past ++ w.past;
+}
 
 abbrev pub spent : View
 spent = record { total = 0; made = 0; seats = 0; claimed = []; past = [] }
 
 -- a seat, by its word and its view
 abbrev pub seat_of : TableId → View → Seat
-seat_of id v = record { word = record { id = id; total = v.total; seats = v.made }; claimed = v.claimed; past = v.past }
+seat_of id v = record {
+  word = record { id = id; total = v.total; seats = v.made };
+  claimed = v.claimed;
+  past = v.past;
+}

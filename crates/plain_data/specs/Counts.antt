@@ -17,4 +17,5 @@ called calls = record calls { made = one_more calls.made }
 
 -- the next call fails: its number is one of those that fail, or the last number that there is
 abbrev pub NextFails : Numbered → Type 0
-NextFails calls = let number = one_more calls.made in Contains calls.failing number ⊎ (number ≡ 2 ^ 64 - 1)
+NextFails calls = let number = one_more calls.made in
+    Contains calls.failing number ⊎ (number ≡ 2 ^ 64 - 1)

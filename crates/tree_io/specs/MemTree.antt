@@ -38,7 +38,13 @@ opened tree = record tree {
 
 -- the tree after a call of `open_scan` or `list` that failed, and after one of `read`
 abbrev pub list_failed : State → State
-list_failed tree = record tree { calls = called tree.calls; list_faults = one_more tree.list_faults }
+list_failed tree = record tree {
+  calls = called tree.calls;
+  list_faults = one_more tree.list_faults;
+}
 
 abbrev pub read_failed : State → State
-read_failed tree = record tree { calls = called tree.calls; read_faults = one_more tree.read_faults }
+read_failed tree = record tree {
+  calls = called tree.calls;
+  read_faults = one_more tree.read_faults;
+}

@@ -29,4 +29,5 @@ IsKnown scans path = ForSome scans (λ told. IsSome (bytes_at (under_way told) p
 
 -- where scans are told, this is the entry of the bytes that the one under way has at the path
 abbrev pub IsReadAs : Option (List Contents) → List ℕ → Entry → Type 0
-IsReadAs scans path entry = IfSome scans (λ told. IfSome (bytes_at (under_way told) path) (λ bytes. entry ≡ entry_of bytes))
+IsReadAs scans path entry = IfSome scans
+    (λ told. IfSome (bytes_at (under_way told) path) (λ bytes. entry ≡ entry_of bytes))
