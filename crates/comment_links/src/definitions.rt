@@ -4,13 +4,9 @@ ghost use Rattle.std.specs.Prelude.{◌≡◌, ℕ, List, IfOk, MatchOption, Non
 ghost use Rattle.std.specs.BTreeMap.{get_by_text};
 ghost use Rattle.std.specs.Option.{option_map};
 ghost use Rattle.comment_links.specs.Marks.{as_space, url_of};
-ghost use Rattle.comment_links.specs.InlinesOf.{inlines_of};
 
-use crate::names::Names;
-use crate::part::Inline;
-use crate::reading::inlines;
 use comment_blocks::LinkDef;
-use go_ast::{Mem, Seq};
+use go_ast::Mem;
 use memchr::memchr;
 use std::alloc::Global;
 use std::collections::BTreeMap;
@@ -104,17 +100,5 @@ impl<'a> Definitions<'a> {
         }
         let spaced = with_spaces(alloc, text)?;
         Ok(self.url(spaced.as_str()))
-    }
-
-    /// The inlines of a text: see [`crate::inline`].
-    ///
-    /// # Errors
-    ///
-    /// `NoMemory` where an allocation is refused, or the names give it.
-    pub fn inlines<N: Names>(&self, alloc: Global, text: &str, names: &N) -> Mem<Seq<Inline>>
-        ensures { IfOk result
-            (λ inlines. inlines ≡ inlines_of self.now (N.address_of names.now) text.now) }
-    {
-        inlines(alloc, text, self, names)
     }
 }

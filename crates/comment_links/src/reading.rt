@@ -84,7 +84,7 @@ fn next_mark<N: Names>(
 }
 
 /// The inlines of a text, by definitions that are ready.
-pub fn inlines<N: Names>(
+fn inlines<N: Names>(
     alloc: Global,
     text: &str,
     definitions: &Definitions,
@@ -110,6 +110,20 @@ pub fn inlines<N: Names>(
     }
     parts.push_plain(&text[from..])?;
     parts.finish(alloc)
+}
+
+impl<'a> Definitions<'a> {
+    /// The inlines of a text: see [`crate::inline`].
+    ///
+    /// # Errors
+    ///
+    /// `NoMemory` where an allocation is refused, or the names give it.
+    pub fn inlines<N: Names>(&self, alloc: Global, text: &str, names: &N) -> Mem<Seq<Inline>>
+        ensures { IfOk result
+            (λ inlines. inlines ≡ inlines_of self.now (N.address_of names.now) text.now) }
+    {
+        inlines(alloc, text, self, names)
+    }
 }
 
 /// The inlines of a text: its links, and the plain text between them with its quotes (Go Doc

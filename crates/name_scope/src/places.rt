@@ -1,4 +1,4 @@
-//! Packages, imports and their tables by their places.
+//! Packages, imports and indexes by their places.
 
 ghost use Rattle.std.specs.Prelude.{◌≡◌, ◌<◌, ◌^◌, IfSome};
 ghost use Rattle.std.specs.BTreeMap.{get_by_text};
@@ -8,7 +8,6 @@ ghost use Rattle.name_scope.specs.Scopes.{imports_of};
 
 use crate::index::Index;
 use crate::packages::{Import, NamedPackage};
-use crate::tables::PackageTables;
 
 pub(crate) fn package_in(packages: &[NamedPackage], place: usize) -> Option<&NamedPackage>
     ensures { option_copied result ≡ slice_get packages.now place }
@@ -32,12 +31,6 @@ pub(crate) fn import_in(
         },
         None => None,
     }
-}
-
-pub(crate) fn tables_in(tables: &[PackageTables], place: u32) -> Option<&PackageTables>
-    ensures { option_copied result ≡ slice_get tables.now place }
-{
-    tables.get(place as usize)
 }
 
 pub(crate) fn index_in(indexes: &[Index], place: u32) -> Option<&Index>

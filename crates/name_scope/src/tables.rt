@@ -1,7 +1,8 @@
 //! The tables in which the names of a package are looked up.
 
 ghost use Rattle.std.specs.Prelude.{◌≡◌, IfOk, map, string_bytes};
-ghost use Rattle.std.specs.List.{AllZip};
+ghost use Rattle.std.specs.List.{AllZip, slice_get};
+ghost use Rattle.std.specs.Option.{option_copied};
 ghost use Rattle.name_scope.specs.Tables.{AreTables, IndexesImports, IsIndex};
 
 use crate::index::{Index, copies_of, index_of};
@@ -69,4 +70,10 @@ fn index_files(
         places.push(index_of(alloc, names)?)?;
     }
     Ok(places)
+}
+
+pub(crate) fn tables_in(tables: &[PackageTables], place: u32) -> Option<&PackageTables>
+    ensures { option_copied result ≡ slice_get tables.now place }
+{
+    tables.get(place as usize)
 }

@@ -5,8 +5,8 @@ ghost use Rattle.name_scope.specs.Scopes.{first_place, imports_of, local_name, t
 
 use crate::index::Index;
 use crate::packages::NamedPackage;
-use crate::places::{index_in, number_of, place_in, tables_in};
-use crate::tables::{PackageTables, index_paths, make_tables};
+use crate::places::{index_in, number_of, place_in};
+use crate::tables::{PackageTables, index_paths, make_tables, tables_in};
 use plain_data::{Mem, Seq};
 use std::alloc::Global;
 use std::marker::Model;
