@@ -1,6 +1,7 @@
 //! Texts without the blanks at their ends.
 
-ghost use Rattle.std.specs.Prelude.{◌≡◌, ◌-◌, ◌<◌, ◌≤◌, drop, length, slice_index, take};
+ghost use Rattle.std.specs.Prelude.{◌≡◌, ◌-◌, ◌<◌, ◌≤◌, IsTrue, drop, length, slice_index, take};
+ghost use Rattle.std.specs.Char.{is_ascii};
 ghost use Rattle.std.specs.List.{prefix_len};
 ghost use Rattle.std.specs.Str.{IsCharBoundary};
 ghost use Rattle.comment_blocks.specs.Texts.{is_blank};
@@ -12,7 +13,7 @@ use crate::line::is_blank;
 pub fn behind(text: &str, count: usize) -> &str
     requires some { 0 < count }
     requires within { count ≤ length text.now }
-    requires ascii { slice_index text.now (count - 1) < 128 }
+    requires ascii { IsTrue (is_ascii (slice_index text.now (count - 1))) }
     ensures { result.now ≡ drop count text.now }
 {
     &text[count..]

@@ -3,6 +3,7 @@
 ghost use Rattle.std.specs.Prelude.{◌≡◌, ◌≤◌, ◌<◌, IfOk, MatchOption, None, Some, length, nat_eq};
 ghost use Rattle.std.specs.List.{join_with_byte, last_or, list_any, prefix_len};
 ghost use Rattle.std.specs.Str.{chars};
+ghost use Rattle.go_ast.specs.Characters.{newline};
 ghost use Rattle.comment_blocks.specs.Kinds.{begins_blank, defined_by, definition_behind};
 ghost use Rattle.comment_blocks.specs.Kinds.{definition_in, definition_of, definition_with};
 ghost use Rattle.comment_blocks.specs.Kinds.{definitions_of, has_heading_form, has_known_scheme};
@@ -216,7 +217,7 @@ pub fn definitions_of(alloc: Global, lines: &[&str]) -> Mem<Option<Seq<LinkDef>>
 
 /// Lines, joined by newlines.
 pub fn joined(alloc: Global, lines: &[&str]) -> Mem<Txt>
-    ensures { IfOk result (λ text. text ≡ join_with_byte 10 (texts lines.now)) }
+    ensures { IfOk result (λ text. text ≡ join_with_byte newline (texts lines.now)) }
 {
     let mut text = String::new(alloc);
     let mut rest = lines;

@@ -1,6 +1,7 @@
 //! Texts, and what they begin and end with.
 
-ghost use Rattle.std.specs.Prelude.{◌≡◌, ◌<◌, None, drop, length, slice_index, take};
+ghost use Rattle.std.specs.Prelude.{◌≡◌, ◌<◌, IsTrue, None, drop, length, slice_index, take};
+ghost use Rattle.std.specs.Char.{is_ascii};
 ghost use Rattle.std.specs.List.{last_or};
 ghost use Rattle.std.specs.Str.{IsCharBoundary, chars};
 ghost use Rattle.comment_links.specs.Marks.{begins_in_name, ends_in_name};
@@ -10,7 +11,7 @@ use go_chars::{is_digit, is_letter};
 /// The text behind its first byte, which is of ASCII.
 pub fn behind_first(text: &str) -> &str
     requires some { 0 < length text.now }
-    requires ascii { slice_index text.now 0 < 128 }
+    requires ascii { IsTrue (is_ascii (slice_index text.now 0)) }
     ensures { result.now ≡ drop 1 text.now }
 {
     &text[1..]

@@ -1,7 +1,8 @@
 //! Notes in a text: on a bug, and on what is deprecated.
 
 ghost use Rattle.std.specs.Prelude.{◌≡◌, ◌-◌, ◌<◌, ◌≤◌, IfOk, MatchOption, None, Some, drop};
-ghost use Rattle.std.specs.Prelude.{length, slice_index, take};
+ghost use Rattle.std.specs.Prelude.{IsTrue, length, slice_index, take};
+ghost use Rattle.std.specs.Char.{is_ascii};
 ghost use Rattle.std.specs.List.{prefix_len};
 ghost use Rattle.std.specs.Str.{IsCharBoundary};
 ghost use Rattle.synopsis_notes.specs.Synopses.{is_white};
@@ -58,7 +59,7 @@ fn trim(text: &str) -> &str
 fn behind(text: &str, count: usize) -> &str
     requires some { 0 < count }
     requires within { count ≤ length text.now }
-    requires ascii { slice_index text.now (count - 1) < 128 }
+    requires ascii { IsTrue (is_ascii (slice_index text.now (count - 1))) }
     ensures { result.now ≡ drop count text.now }
 {
     &text[count..]
