@@ -13,10 +13,8 @@ status_of statuses.NotAllowed = codes "405 Method Not Allowed"
 
 -- the methods that are allowed, beside 405 (RFC 9110, section 10.2.1)
 abbrev pub allow_line : Code → List ℕ
-allow_line statuses.Ok = []
-allow_line statuses.BadRequest = []
-allow_line statuses.NotFound = []
 allow_line statuses.NotAllowed = codes "Allow: GET, HEAD\r\n"
+allow_line _ = []
 
 -- the announcement that the connection closes (RFC 9112, section 9.6)
 abbrev pub close_line : Bool → List ℕ

@@ -40,9 +40,7 @@ sources_of (Some scan) = scan.sources ∷ []
 abbrev pub published : ℕ → List Event → List ℕ
 published opening [] = opening ∷ []
 published opening (events.Publish ∷ past) = published opening past ++ sources_of (under_way past)
-published opening (events.Scan sources pieces ∷ past) = published opening past
-published opening (events.Piece worker index ∷ past) = published opening past
-published opening (events.Enter connection request ∷ past) = published opening past
+published opening (_ ∷ past) = published opening past
 
 -- the last of a list, or else this
 abbrev pub last_of : ℕ → List ℕ → ℕ
@@ -85,15 +83,11 @@ answer_of opening past (events.Enter connection request) =
 
 abbrev pub is_legal : Answer → Bool
 is_legal (Illegal why) = false
-is_legal Done = true
-is_legal (Published edition) = true
-is_legal (Served edition sources request) = true
+is_legal _ = true
 
 abbrev pub is_served : Answer → Bool
 is_served (Served edition sources request) = true
-is_served (Illegal why) = false
-is_served Done = false
-is_served (Published edition) = false
+is_served _ = false
 
 -- the past of the next event: an illegal event leaves no trace
 abbrev pub past_after : ℕ → List Event → Event → List Event
