@@ -1,8 +1,10 @@
 mod Assembling
 mod Beside
+pub mod CorpusLaws
 mod FileFaults
 mod Halving
 mod Inputs
+mod KeptFiles
 mod Lists
 mod Numbers
 mod OneCorpus

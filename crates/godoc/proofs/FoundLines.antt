@@ -6,6 +6,7 @@ use Rattle.std.proofs.lemmas.Grind.{flat_map-append}
 use Rattle.std.proofs.lemmas.List.Concat.{flat_map-cons}
 use Rattle.std.proofs.lemmas.List.Elements.{All-append, All-filter, All-head, All-map, All-nil, All-tail, All-weaker}
 use Rattle.std.proofs.lemmas.List.Folds.{flat_map-map}
+use Rattle.std.proofs.lemmas.Option.{slice_get_within}
 use Rattle.corpus_piece.specs.Pieces.{JudgedFile}
 use Rattle.corpus.specs.Corpora.{AcceptedFile, Edition, IsCorpusOf, bytes_in, hits_in, kept}
 use Rattle.go_ast.specs.declared.token.Token.{Token}
@@ -17,7 +18,7 @@ use Rattle.ident_index.specs.Postings.{hits_named, named_of_all}
 use Rattle.ident_index.specs.declared.hit.Hit.{Hit}
 use Rattle.godoc.specs.Find.{hit_lines, place_line}
 use Rattle.godoc.specs.HitLines.{IsHitIn, hit_line}
-use Rattle.godoc.proofs.Kept.{IsAcceptedIn, kept_are_accepted, same_length, within_list}
+use Rattle.corpus.proofs.CorpusLaws.{IsAcceptedIn, kept_are_accepted, length-files}
 
 -- an accepted file as one that was read
 abbrev read_of : AcceptedFile → ReadFile
@@ -43,7 +44,7 @@ module _ (all : List JudgedFile) (name : List ℕ) where
       ≡ map source_and_hits_of (map read_of files)
   same_sources [] accepted = refl
   same_sources (a ∷ files) accepted =
-      (λ j. (a.bytes, (All-head (IsAcceptedIn all) a files accepted).hits_are j)
+      (λ j. (a.bytes, (All-head (IsAcceptedIn all) a files accepted).read.hits_are j)
       ∷ same_sources files (All-tail (IsAcceptedIn all) a files accepted) j)
 
   are_read : (files : List AcceptedFile) → All (IsAcceptedIn all) files → All IsReadFile
@@ -51,7 +52,7 @@ module _ (all : List JudgedFile) (name : List ℕ) where
   are_read files accepted =
       All-map IsReadFile read_of files
       (All-weaker (IsAcceptedIn all) (λ a. IsReadFile (read_of a))
-      (λ a is. (a.parsed.scanned.comments, is.reads)) files accepted)
+      (λ a is. (a.parsed.scanned.comments, is.read.reads)) files accepted)
 
   -- the hits of the name in accepted files
   hits_are : (files : List AcceptedFile) → All (IsAcceptedIn all) files
@@ -94,16 +95,16 @@ module _ (edition : Edition) (few : length edition.tables.files ≡ length editi
       let tokens = a.parsed.scanned.tokens in
       let named = identifiers_named name a.bytes tokens in
       let inside : All (IsWithin (length a.bytes)) named = All-filter _ (IsWithin (length a.bytes)) tokens
-      (within a.bytes tokens a.parsed.scanned.comments is.reads) in
+      (within a.bytes tokens a.parsed.scanned.comments is.read.reads) in
       All-map (IsHitIn edition) (hit_of a.bytes a.parsed.file a.number) named
       (All-weaker (IsWithin (length a.bytes)) (λ t. IsHitIn edition (hit_of a.bytes a.parsed.file a.number t))
       (λ t w. record {
-        in_range = rw (← few) (within_list all a.number is.file is.at);
+        in_range = rw (← few) (slice_get_within all a.number is.file is.at);
         file = is.file;
         parsed = a.parsed;
         at = is.at;
         accepted = is.outcome_is;
-        lines = rw is.bytes_are is.lines_are;
+        lines = rw is.bytes_are is.read.lines_are;
         within = rw is.bytes_are (omega (arith, w.0, w.1));
       }) named inside)
 
@@ -135,5 +136,5 @@ module _ (edition : Edition) (tables : IsCorpusOf edition.sources edition.tables
   pub found_stand : All (IsHitIn edition) (hits_named name (hits_in files))
   found_stand =
       subst (All (IsHitIn edition)) (sym (hits_are files name (kept files) accepted))
-      (all_hits_stand edition (same_length edition.sources files tables.files) name (kept files)
+      (all_hits_stand edition (length-files edition.sources files tables.files) name (kept files)
       accepted)

@@ -2,7 +2,7 @@ use Rattle.std.proofs.Common.{◌++◌, ◌∙◌, ap}
 use Rattle.std.specs.List.{flat_map}
 use Rattle.std.proofs.lemmas.Result.{on_ok_weaker}
 use Rattle.godoc.specs.Pages.{fault_line, faults_start, list_end}
-use Rattle.godoc.proofs.Kept.{faults_in_range}
+use Rattle.corpus.proofs.CorpusLaws.{faults_in_range}
 use Rattle.godoc.proofs.Joins.{joined_three}
 use Rattle.godoc.proofs.pages.push_faults.Goals as goal
 

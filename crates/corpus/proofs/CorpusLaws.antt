@@ -1,0 +1,4 @@
+-- What the crates above use in their proofs: what is known of the files that a corpus keeps, and
+-- that the numbers of its files are those of its sources.
+pub use Rattle.corpus.proofs.Inputs.{length-files}
+pub use Rattle.corpus.proofs.KeptFiles.{IsAcceptedIn, faults_in_range, kept_are_accepted}
