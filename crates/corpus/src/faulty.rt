@@ -11,26 +11,8 @@ use crate::accepted::Accepted;
 use crate::faults::FileFault;
 use crate::snapshot::Snapshot;
 use corpus_piece::{Outcome, Piece};
-use go_ast::{Fault, Mem, Seq, Txt};
+use go_ast::{Fault, Mem, Seq, Txt, copy_fault};
 use std::alloc::Global;
-
-fn copy_fault(alloc: Global, fault: &Fault) -> Mem<Fault>
-    ensures { IfOk result (λ copy. copy ≡ fault.now) }
-{
-    Ok(match fault {
-        Fault::NotUtf8(length) => Fault::NotUtf8(*length),
-        Fault::BadToken(offset) => Fault::BadToken(*offset),
-        Fault::OpenComment(offset) => Fault::OpenComment(*offset),
-        Fault::OpenString(offset) => Fault::OpenString(*offset),
-        Fault::Unbalanced(offset) => Fault::Unbalanced(*offset),
-        Fault::NoPackageClause => Fault::NoPackageClause,
-        Fault::BadDeclaration(chunk, line) => Fault::BadDeclaration(*chunk, *line),
-        Fault::OtherPackage(name) => Fault::OtherPackage(Txt::from_str(alloc, name.as_str())?),
-        Fault::FileTooLarge => Fault::FileTooLarge,
-        Fault::Unread => Fault::Unread,
-        Fault::BadBuildLine(line) => Fault::BadBuildLine(*line),
-    })
-}
 
 /// Whether a number is among rising numbers.
 pub(crate) fn is_among(numbers: &[u32], number: u32) -> bool

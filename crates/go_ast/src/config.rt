@@ -1,6 +1,9 @@
 //! For what a tree of sources is read.
 
-use plain_data::{Seq, Txt};
+ghost use Rattle.std.specs.Prelude.{◌≡◌, IfOk};
+
+use plain_data::{Mem, Seq, Txt};
+use std::alloc::Global;
 
 /// The platform, the build tags and the version of the language that build lines are judged by, and
 /// the path under which packages are imported.
@@ -16,4 +19,28 @@ pub struct Config {
     pub go_minor: u32,
     /// What stands before a folder in the path of its package; it may be empty.
     pub prefix: Txt,
+}
+
+/// A copy of a configuration, which equals it.
+pub fn copy_config(alloc: Global, config: &Config) -> Mem<Config>
+    ensures { IfOk result (λ copy. copy ≡ config.now) }
+{
+    Ok(Config {
+        goos: Txt::from_str(alloc, config.goos.as_str())?,
+        goarch: Txt::from_str(alloc, config.goarch.as_str())?,
+        tags: copy_texts(alloc, config.tags.as_slice())?,
+        go_minor: config.go_minor,
+        prefix: Txt::from_str(alloc, config.prefix.as_str())?,
+    })
+}
+
+/// Copies of texts, in their order.
+fn copy_texts(alloc: Global, texts: &[Txt]) -> Mem<Seq<Txt>>
+    ensures { IfOk result (λ copies. copies ≡ texts.now) }
+{
+    let mut copies = Seq::new(alloc);
+    for text in texts {
+        copies.push(Txt::from_str(alloc, text.as_str())?)?;
+    }
+    Ok(copies)
 }

@@ -1,6 +1,9 @@
 //! Why a source is refused.
 
-use plain_data::{NoMemory, Txt};
+ghost use Rattle.std.specs.Prelude.{◌≡◌, IfOk};
+
+use plain_data::{Mem, NoMemory, Txt};
+use std::alloc::Global;
 use std::error::Error;
 use std::fmt;
 
@@ -76,3 +79,22 @@ impl fmt::Display for Fault {
 }
 
 impl Error for Fault {}
+
+/// A copy of a fault, which equals it.
+pub fn copy_fault(alloc: Global, fault: &Fault) -> Mem<Fault>
+    ensures { IfOk result (λ copy. copy ≡ fault.now) }
+{
+    Ok(match fault {
+        Fault::NotUtf8(length) => Fault::NotUtf8(*length),
+        Fault::BadToken(offset) => Fault::BadToken(*offset),
+        Fault::OpenComment(offset) => Fault::OpenComment(*offset),
+        Fault::OpenString(offset) => Fault::OpenString(*offset),
+        Fault::Unbalanced(offset) => Fault::Unbalanced(*offset),
+        Fault::NoPackageClause => Fault::NoPackageClause,
+        Fault::BadDeclaration(chunk, line) => Fault::BadDeclaration(*chunk, *line),
+        Fault::OtherPackage(name) => Fault::OtherPackage(Txt::from_str(alloc, name.as_str())?),
+        Fault::FileTooLarge => Fault::FileTooLarge,
+        Fault::Unread => Fault::Unread,
+        Fault::BadBuildLine(line) => Fault::BadBuildLine(*line),
+    })
+}

@@ -15,11 +15,11 @@ mod tree;
 mod tree_copy;
 mod word;
 
-pub use config::Config;
+pub use config::{Config, copy_config};
 pub use declaration::{
     Decl, File, FuncDecl, Group, ImportName, ImportSpec, Receiver, TypeParam, TypeSpec, ValueSpec,
 };
-pub use fault::{Fault, Refused};
+pub use fault::{Fault, Refused, copy_fault};
 pub use file_copy::{copy_decl, copy_file};
 pub use plain_data::{Bytes, Failed, IoFail, Mem, NoMemory, Seq, Txt};
 pub use token::{Comment, MAX_SOURCE_BYTES, Scanned, Span, Token, TokenKind, TokenRange};

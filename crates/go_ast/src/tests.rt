@@ -1,6 +1,7 @@
 use crate::{
-    ChanDir, Decl, Element, Fault, Field, File, FuncDecl, Group, Mem, Param, Receiver, Seq,
-    Signature, Span, Term, TokenRange, Txt, TypeExpr, TypeParam, TypeSpec, copy_file, copy_type,
+    ChanDir, Config, Decl, Element, Fault, Field, File, FuncDecl, Group, Mem, Param, Receiver, Seq,
+    Signature, Span, Term, TokenRange, Txt, TypeExpr, TypeParam, TypeSpec, copy_config, copy_fault,
+    copy_file, copy_type,
 };
 use sqlite_items::Boxed;
 use std::alloc::Global;
@@ -156,6 +157,27 @@ fn a_copied_file_is_the_file(rt: HostRuntime) -> Result<(), Fail> {
     let other = copy_type(alloc, &typ)?;
     let wanted = format!(in alloc; "{typ:?}")?;
     let told = format!(in alloc; "{other:?}")?;
+    assert_eq!(rt; told.as_str(), wanted.as_str());
+    Ok(())
+}
+
+#[test]
+fn copied_faults_and_configurations_are_whole(rt: HostRuntime) -> Result<(), Fail> {
+    let alloc = rt.alloc();
+    let fault = Fault::OtherPackage(Txt::from_str(alloc, "r")?);
+    let copied = copy_fault(alloc, &fault)?;
+    let told = format!(in alloc; "{copied}")?;
+    assert_eq!(rt; told.as_str(), "fault 8: package r beside another package");
+    let config = Config {
+        goos: Txt::from_str(alloc, "plan9")?,
+        goarch: Txt::from_str(alloc, "arm")?,
+        tags: one(alloc, Txt::from_str(alloc, "race")?)?,
+        go_minor: 19,
+        prefix: Txt::from_str(alloc, "a/b")?,
+    };
+    let copied = copy_config(alloc, &config)?;
+    let wanted = format!(in alloc; "{config:?}")?;
+    let told = format!(in alloc; "{copied:?}")?;
     assert_eq!(rt; told.as_str(), wanted.as_str());
     Ok(())
 }

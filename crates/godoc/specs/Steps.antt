@@ -2,8 +2,6 @@
 use Rattle.std.specs.Prelude.{ℕ, List, Option, ⊤}
 use Rattle.plain_data.specs.declared.errors.IoFail.{IoFail}
 use Rattle.plain_data.specs.declared.errors.IoFail.TheVariants as causes
-use Rattle.corpus.specs.declared.snapshot.TooLarge.{TooLarge}
-use Rattle.corpus.specs.declared.snapshot.TooLarge.TheVariants as limits
 use Rattle.tree_io.specs.Sources.{Contents}
 use Rattle.godoc.specs.declared.scan.ScanFault.{ScanFault}
 use Rattle.godoc.specs.declared.scan.ScanFault.TheVariants as faults
@@ -15,12 +13,6 @@ use Rattle.godoc.specs.Limits.{HasTooManyBytes, HasTooManyFiles, PassBytes}
 abbrev pub fault_of : IoFail → ScanFault
 fault_of causes.Failed = faults.TreeFault
 fault_of causes.NoMemory = faults.NoMemory
-
--- sources that are no snapshot, for this
-abbrev pub fault_by : TooLarge → ScanFault
-fault_by (limits.TooManyFiles files) = faults.TooManyFiles files
-fault_by (limits.TooManyBytes bytes) = faults.TooManyBytes bytes
-fault_by limits.NoMemory = faults.NoMemory
 
 -- the status of a command whose scan gave no corpus
 abbrev pub status_of : ScanFault → Status

@@ -62,7 +62,7 @@ fn push_hit(text: &mut Text, corpus: &Corpus, hit: &Hit) -> Mem<()>
             let position = position_of(parsed.scanned.lines.as_slice(), hit.offset);
             push_line(text, piece.path(), position)
         }
-        Outcome::Ignored(_) | Outcome::Faulty(_) => Ok(()),
+        Outcome::Ignored(_) | Outcome::Faulty(_) => unreachable!(),
     }
 }
 

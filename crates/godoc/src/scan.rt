@@ -14,12 +14,10 @@ ghost use Rattle.godoc.specs.Outcome.{OpensAtMostOne};
 ghost use Rattle.godoc.specs.Serving.{IsEditionOf};
 ghost use Rattle.godoc.specs.Steps.{IsReadFault, IsScanFault};
 
-use crate::config::{copy_config, default_config};
-use corpus::{
-    Corpus, MAX_FILES, MAX_SCAN_BYTES, Snapshot, TooLarge, assemble, entry_size, own_tables,
-};
+use crate::config::default_config;
+use corpus::{Corpus, MAX_FILES, MAX_SCAN_BYTES, Snapshot, assemble, entry_size, own_tables};
 use corpus_piece::{Piece, make_piece};
-use go_ast::{Config, IoFail, Mem, NoMemory, Seq, Txt};
+use go_ast::{Config, IoFail, Mem, NoMemory, Seq, Txt, copy_config};
 use std::alloc::Global;
 use tree_io::{Entry, Tree, read_entry};
 
@@ -44,21 +42,6 @@ impl From<NoMemory> for ScanFault {
 
     fn from(_: NoMemory) -> ScanFault {
         ScanFault::NoMemory
-    }
-}
-
-impl From<TooLarge> for ScanFault {
-    ghost use Rattle.std.specs.Prelude.{◌≡◌};
-    ghost use Rattle.godoc.specs.Steps.{fault_by};
-
-    ghost from_gives = { λ cause fault. fault ≡ fault_by cause };
-
-    fn from(cause: TooLarge) -> ScanFault {
-        match cause {
-            TooLarge::TooManyFiles(files) => ScanFault::TooManyFiles(files),
-            TooLarge::TooManyBytes(bytes) => ScanFault::TooManyBytes(bytes),
-            TooLarge::NoMemory => ScanFault::NoMemory,
-        }
     }
 }
 
@@ -163,19 +146,16 @@ fn read_files<T: Tree>(
 }
 
 /// The corpus of sources that a scan gave.
-fn make_corpus(
-    alloc: Global,
-    config: Config,
-    sources: Seq<(Txt, Entry)>,
-) -> Result<Corpus, ScanFault>
+fn make_corpus(alloc: Global, config: Config, sources: Seq<(Txt, Entry)>) -> Mem<Corpus>
     requires valid { IsSources sources }
     requires within { IsWithinLimits sources }
-    ensures sources { IfOk result (λ corpus. corpus.sources ≡ source_set config sources) }
-    ensures refused { IfErr result (λ fault. fault ≡ ScanFault.NoMemory) }
+    ensures { IfOk result (λ corpus. corpus.sources ≡ source_set config sources) }
 {
-    let snapshot = Snapshot::make(config, sources)?;
+    let Ok(snapshot) = Snapshot::make(config, sources) else {
+        unreachable!()
+    };
     let pieces = make_pieces(alloc, &snapshot)?;
-    Ok(assemble(alloc, snapshot, pieces)?)
+    assemble(alloc, snapshot, pieces)
 }
 
 /// The pieces of the files of a snapshot, in their order.

@@ -43,7 +43,7 @@ fn add_file<'a>(groups: &mut Groups<'a>, source: &'a [u8], hits: &[Hit]) -> Mem<
         → HasGroups groups.new (before ++ named_of source.now hits.now)) }
 {
     let Ok(text) = str::from_utf8(source) else {
-        return Ok(());
+        unreachable!()
     };
     for hit in hits {
         add_hit(groups, name_at(text, hit.offset), *hit)?;

@@ -1,5 +1,5 @@
 use Rattle.std.proofs.Common.{◌≡◌, ◌≤◌, ◌∙◌, arith, length, rules}
-use Rattle.godoc.proofs.Scanning.{input_more, inputs_all}
+use Rattle.corpus.proofs.CorpusLaws.{input_more, inputs_all}
 use Rattle.godoc.proofs.scan.make_pieces.Goals as goal
 
 pub loop-number-preserved : goal.loop-number-preserved
