@@ -60,7 +60,7 @@ pub fn signature_in(alloc: Global, words: &Words<'_>) -> Mem<Option<Signature>>
 pub fn declared_in(alloc: Global, words: &Words<'_>) -> Mem<Option<(Seq<Span>, TypeExpr)>>
     ensures spelled { IfOk result (λ found. MatchOption found
         ((names : List Span) (typ : TypeExpr)
-            → Declared (Spells MAX_TYPE_LEVELS) words.now names typ → ⊥)
+        → Declared (Spells MAX_TYPE_LEVELS) words.now names typ → ⊥)
         (λ p. Declared (Spells MAX_TYPE_LEVELS) words.now p.0 p.1)) }
     ensures read { IfOk result
         (λ found. found ≡ reading.declared (reading.type_of MAX_TYPE_LEVELS) words.now) }
