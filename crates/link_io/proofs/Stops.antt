@@ -1,30 +1,45 @@
--- Where a read stops: behind the position, and not behind the end.
-use Rattle.std.proofs.Common.{◌≡◌, ℕ, ◌+◌, ◌-◌, ◌<◌, ◌≤◌, ◌↔◌, ltb, List, [], ◌∷◌, ◌++◌, length, take, drop, min, fold, filter, sym, ap, subst, arith}
+-- Where a read stops: behind its first byte where there is one, and not behind the end.
+use Rattle.std.proofs.Common.{◌≡◌, ℕ, ◌+◌, ◌-◌, ◌<◌, ◌≤◌, ◌↔◌, Bool, true, false, ltb, List, [], ◌∷◌, ◌++◌, length, take, drop, map, min, fold, filter, refl, sym, ap, subst, arith, cond}
 use Rattle.std.proofs.Math.Seq.{take-append_seam}
 use Rattle.std.proofs.lemmas.List.{drop-drop, drop_all, length-drop, length-take-le, take-append-drop}
-use Rattle.std.proofs.lemmas.Bool.{cond_both, ltb-true}
-use Rattle.link_io.specs.Memory.{stop_of}
+use Rattle.std.proofs.lemmas.Bool.{cond_both, false≢true, ltb-true}
+use Rattle.std.proofs.lemmas.Bool.Decides.{nat_tests}
+use Rattle.link_io.specs.Memory.{cuts_behind}
 
-pub stop_of-le : (position : ℕ) (cuts : List ℕ) (end : ℕ) → stop_of position cuts end ≤ end
-stop_of-le position [] end = omega arith
-stop_of-le position (cut ∷ cuts) end =
-    cond_both (ltb position cut) (cut ∷ filter (ltb position) cuts) (filter (ltb position) cuts) (λ rest. fold min end rest ≤ end)
-    (λ behind. omega (arith, stop_of-le position cuts (min end cut)))
-    (λ _. stop_of-le position cuts end)
+-- the least of some cuts and an end
+pub least-le : (cuts : List ℕ) (end : ℕ) → fold min end cuts ≤ end
+least-le [] end = omega arith
+least-le (cut ∷ cuts) end = omega (arith, least-le cuts (min end cut))
 
-pub lt-stop_of : (position : ℕ) (cuts : List ℕ) (end : ℕ) → position < end → position < stop_of position cuts end
-lt-stop_of position [] end h = h
-lt-stop_of position (cut ∷ cuts) end h =
-    cond_both (ltb position cut) (cut ∷ filter (ltb position) cuts) (filter (ltb position) cuts) (λ rest. position < fold min end rest)
-    (λ behind. let before : position < cut = ltb-true position cut behind in lt-stop_of position cuts (min end cut) (omega arith))
-    (λ _. lt-stop_of position cuts end h)
+-- cuts behind some bytes leave room
+pub least-positive : (position : ℕ) (cuts : List ℕ) (end : ℕ) → 0 < end → 0 < fold min end (cuts_behind position cuts)
+least-positive position [] end h = h
+least-positive position (cut ∷ cuts) end h =
+    cond_both (ltb position cut) (cut ∷ filter (ltb position) cuts) (filter (ltb position) cuts) (λ rest. 0 < fold min end (map (λ (c : ℕ). c - position) rest))
+    (λ behind. let before : position < cut = ltb-true position cut behind in least-positive position cuts (min end (cut - position)) (omega arith))
+    (λ _. least-positive position cuts end h)
 
-pub le-stop_of : (position : ℕ) (cuts : List ℕ) (end : ℕ) → position ≤ end → position ≤ stop_of position cuts end
-le-stop_of position [] end h = h
-le-stop_of position (cut ∷ cuts) end h =
-    cond_both (ltb position cut) (cut ∷ filter (ltb position) cuts) (filter (ltb position) cuts) (λ rest. position ≤ fold min end rest)
-    (λ behind. let before : position < cut = ltb-true position cut behind in le-stop_of position cuts (min end cut) (omega arith))
-    (λ _. le-stop_of position cuts end h)
+-- the first of some cuts, which is behind some bytes and more where it is behind both parts of them
+first_cut : (whole rest : ℕ → ℕ) (is_behind : ℕ → Bool) (front : ℕ → ℕ) (cut : ℕ) (all some : List ℕ) (a b : Bool) → (a ≡ true → b ≡ true) → (b ≡ true → is_behind (front cut) ≡ a) → whole cut ≡ rest (front cut) → map whole all ≡ map rest (filter is_behind (map front some)) → map whole (cond a (cut ∷ all) all) ≡ map rest (filter is_behind (map front (cond b (cut ∷ some) some)))
+first_cut whole rest is_behind front cut all some true true _ same here more =
+    let others : List ℕ = filter is_behind (map front some) in
+    subst (λ (w : Bool). whole cut ∷ map whole all ≡ map rest (cond w (front cut ∷ others) others)) (sym (same refl)) (cc (here, more))
+first_cut whole rest is_behind front cut all some true false both _ _ _ = absurd (false≢true (both refl))
+first_cut whole rest is_behind front cut all some false true _ same _ more =
+    let others : List ℕ = filter is_behind (map front some) in
+    subst (λ (w : Bool). map whole all ≡ map rest (cond w (front cut ∷ others) others)) (sym (same refl)) more
+first_cut whole rest is_behind front cut all some false false _ _ _ more = more
+
+-- cuts behind some bytes, and behind some more
+pub cuts_behind-more : (cuts : List ℕ) (position n : ℕ) → cuts_behind (position + n) cuts ≡ cuts_behind n (cuts_behind position cuts)
+cuts_behind-more [] position n = refl
+cuts_behind-more (cut ∷ cuts) position n =
+    first_cut (λ c. c - (position + n)) (λ c. c - n) (ltb n) (λ c. c - position) cut
+    (filter (ltb (position + n)) cuts) (filter (ltb position) cuts) (ltb (position + n) cut) (ltb position cut)
+    (grind (arith, nat_tests)) (grind (arith, nat_tests)) (omega arith) (cuts_behind-more cuts position n)
+
+pub drop-more : (bytes : List ℕ) (position n : ℕ) → drop (position + n) bytes ≡ drop n (drop position bytes)
+drop-more bytes position n = sym (drop-drop n position bytes)
 
 -- a front of known length
 take_front : (n : ℕ) (front rest : List ℕ) → length front ≡ n → take n (front ++ rest) ≡ front

@@ -1,14 +1,13 @@
 -- Cited by public clauses. Sources, sinks and links in memory: what they are, and what one call
 -- does. The project's own.
-use Rattle.std.specs.Prelude.{◌≡◌, ℕ, ◌+◌, ◌-◌, ◌<◌, ◌⊎◌, ◌↔◌, List, ◌++◌, length, take, drop, min, fold, filter, nat_lt, IsErr, IfOk, OnErr, Result, Option, Some}
+use Rattle.std.specs.Prelude.{◌≡◌, ℕ, ◌-◌, ◌<◌, ◌⊎◌, ◌↔◌, List, ◌++◌, length, take, drop, map, min, fold, filter, nat_lt, IsErr, IfOk, OnErr, Result, Option, Some}
 use Rattle.plain_data.specs.Counts.{Numbered, NextFails, called, one_more}
 
 -- a source in memory
 pub record SourceState : Type 0 where
-  -- all its bytes, and how many of them were read
-  pub bytes : List ℕ
-  pub position : ℕ
-  -- the offsets that no read passes
+  -- the bytes that remain
+  pub remaining : List ℕ
+  -- the offsets in them that no read passes, in the order in which they were given
   pub cuts : List ℕ
   -- its reads, and how many of them failed
   pub calls : Numbered
@@ -31,30 +30,32 @@ pub record LinkState : Type 0 where
 
 -- the bytes that remain in a source
 abbrev pub remaining_of : SourceState → Option (List ℕ)
-remaining_of source = Some (drop source.position source.bytes)
+remaining_of source = Some source.remaining
 
 -- the bytes that a sink holds
 abbrev pub held_of : SinkState → Option (List ℕ)
 held_of sink = Some sink.held
 
--- where a read stops at the latest: at the least of the cuts behind the position, or at the end
-abbrev pub stop_of : ℕ → List ℕ → ℕ → ℕ
-stop_of position cuts end = fold min end (filter (λ cut. nat_lt position cut) cuts)
+-- the cuts behind the first n bytes, counted from there
+abbrev pub cuts_behind : ℕ → List ℕ → List ℕ
+cuts_behind n cuts = map (λ cut. cut - n) (filter (λ cut. nat_lt n cut) cuts)
 
--- how many bytes a read moves into a buffer of this length
+-- how many bytes a read moves into a buffer of this length: up to the first cut, or to the end
 abbrev pub count_of : SourceState → ℕ → ℕ
 count_of source length_of_buffer =
-    min length_of_buffer
-    (stop_of source.position source.cuts (length source.bytes) - source.position)
+    min length_of_buffer (fold min (length source.remaining) source.cuts)
 
 -- what a read did: old and new are the source, before and after are the buffer
 pub record Reads {E : Type 0} (old new : SourceState) (before after : List ℕ)
     (result : Result ℕ E) : Type 0 where
   pub fails : IsErr result ↔ NextFails old.calls
   pub count : IfOk result (λ n. n ≡ count_of old (length before))
-  pub moved : IfOk result (λ n. after ≡ take n (drop old.position old.bytes) ++ drop n before)
-  pub ok : IfOk result (λ n. new
-      ≡ record old { position = old.position + n; calls = called old.calls })
+  pub moved : IfOk result (λ n. after ≡ take n old.remaining ++ drop n before)
+  pub ok : IfOk result (λ n. new ≡ record old {
+    remaining = drop n old.remaining;
+    cuts = cuts_behind n old.cuts;
+    calls = called old.calls;
+  })
   pub err : OnErr result (new ≡ record old {
     calls = called old.calls;
     faults = one_more old.faults;

@@ -1,9 +1,9 @@
 //! Sources, sinks and links in memory, which tell all: their bytes, and which of their calls fail.
 
-ghost use Rattle.std.specs.Prelude.{◌≡◌, ◌+◌, ◌-◌, ◌<◌, ◌≤◌, ◌↔◌, ◌++◌, [], length, take, drop, min, OnErr, IsErr};
+ghost use Rattle.std.specs.Prelude.{◌≡◌, ◌+◌, ◌-◌, ◌<◌, ◌≤◌, ◌↔◌, ◌++◌, [], length, take, drop, fold, min, OnErr, IsErr};
 ghost use Rattle.plain_data.specs.Causes.{HasCause};
 ghost use Rattle.plain_data.specs.Counts.{NextFails, called, one_more};
-ghost use Rattle.link_io.specs.Memory.{Reads, Writes, held_of, remaining_of, stop_of};
+ghost use Rattle.link_io.specs.Memory.{Reads, Writes, cuts_behind, held_of, remaining_of};
 ghost use Rattle.link_io.specs.Streams.{ReadsInto, WritesFrom};
 
 use crate::link::Link;
@@ -25,15 +25,14 @@ pub struct MemSource {
 }
 
 impl Model for MemSource {
-    ghost use Rattle.std.specs.Prelude.{◌≤◌, length};
-    ghost use Rattle.link_io.specs.Memory.{SourceState};
+    ghost use Rattle.std.specs.Prelude.{◌≤◌, drop, length};
+    ghost use Rattle.link_io.specs.Memory.{SourceState, cuts_behind};
 
     ghost Value = { SourceState };
 
     ghost view = { λ source. record {
-      bytes = source.bytes.items;
-      position = source.position;
-      cuts = source.cuts.items;
+      remaining = drop source.position source.bytes.items;
+      cuts = cuts_behind source.position source.cuts.items;
       calls = source.calls;
       faults = source.faults;
     } };
@@ -47,9 +46,8 @@ impl MemSource {
     /// no memory.
     pub fn new(bytes: Vec<u8>, cuts: Vec<u64>, failing: Vec<u64>) -> MemSource
         ensures { result ≡ record {
-          bytes = bytes.items;
-          position = 0;
-          cuts = cuts.items;
+          remaining = bytes.items;
+          cuts = cuts_behind 0 cuts.items;
           calls = record { made = 0; failing = failing.items };
           faults = 0;
         } }
@@ -265,7 +263,8 @@ fn count_call(calls: &mut NumberedCalls, faults: &mut FaultCount) -> Result<(), 
 fn move_bytes(bytes: &[u8], position: usize, cuts: &[u64], buf: &mut [u8]) -> usize
     requires { position ≤ length bytes.now }
     ensures count { result
-        ≡ min (length buf.old) (stop_of position cuts.now (length bytes.now) - position) }
+        ≡ min (length buf.old)
+        (fold min (length bytes.now - position) (cuts_behind position cuts.now)) }
     ensures moved { buf.new ≡ take result (drop position bytes.now) ++ drop result buf.old }
     ensures within { position + result ≤ length bytes.now }
     ensures rest { drop position bytes.now
@@ -280,19 +279,20 @@ fn move_bytes(bytes: &[u8], position: usize, cuts: &[u64], buf: &mut [u8]) -> us
 // How many bytes a read from a place on moves into a buffer of this length.
 fn count_to_stop(position: usize, cuts: &[u64], end: usize, room: usize) -> usize
     requires { position ≤ end }
-    ensures count { result ≡ min room (stop_of position cuts.now end - position) }
+    ensures count { result
+        ≡ min room (fold min (end - position) (cuts_behind position cuts.now)) }
     ensures within { position + result ≤ end }
     ensures progress { 0 < room → position < end → 0 < result }
 {
-    let stop = stop_behind(position, cuts, end);
-    room.min(stop - position)
+    room.min(reach(position, cuts, end - position))
 }
 
-// Where a read from a place on stops at the latest.
-fn stop_behind(position: usize, cuts: &[u64], end: usize) -> usize
-    ensures { result ≡ stop_of position cuts.now end }
+// How many of the bytes from a place on a read can move at most.
+fn reach(position: usize, cuts: &[u64], remaining: usize) -> usize
+    ensures { result ≡ fold min remaining (cuts_behind position cuts.now) }
 {
     cuts.iter()
         .filter(|cut| position < **cut as usize)
-        .fold(end, |stop, cut| stop.min(*cut as usize))
+        .map(|cut| (*cut as usize).saturating_sub(position))
+        .fold(remaining, |least, cut| least.min(cut))
 }
