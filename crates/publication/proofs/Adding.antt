@@ -7,7 +7,7 @@ use mathlib.Core.List.{IsPrefix}
 use prog.Atomic.{either}
 use Rattle.logbook.specs.Pages.{Cell, cell, keeps, gives, adds, nib, may_make, no_nib, step, Moves, Goes, Away}
 use Rattle.publication.specs.Chronicle.{IsOpen, IsSettled, IsKept, AddsEntry, MakesPlace, place_after}
-use Rattle.publication.proofs.Logs.{prefix_whole, settled_more}
+use Rattle.publication.proofs.Logs.{begins_of, prefix_whole, settled_more}
 
 -- an away place at the end changes nothing
 cell_more : (places : List Cell) (place : ℕ) → cell (places ++ (0, false) ∷ []) place ≡ cell places
@@ -84,7 +84,7 @@ module _ {E : Type 0} where
       (λ n. either (n == 0) 0 n) (AddsEntry (step 0 0 0 entry)
       (seen, (place_after (length seen), state))) ((length places, true) ∷ places) log
   adds_goes places log seen entry state home away front unclosed within free =
-      let whole : seen ≡ log = prefix_whole seen log front (no_longer places seen log home free) in
+      let whole : seen ≡ log = prefix_whole seen log (begins_of seen log front) (no_longer places seen log home free) in
       let kept : IsKept ((length places, true) ∷ set places (suc (length seen)) (0, true))
       (seen ++ entry ∷ []) =
       placed places seen entry within (subst (λ (l : List (Option E)). (place : ℕ)

@@ -1,11 +1,10 @@
 -- What two know of one history.
 use Rattle.std.proofs.Common.{◌≡◌, ℕ, ◌<◌, ◌≤◌, ◌⊎◌, Bool, true, false, ◌||◌, List, [], ◌∷◌, ◌++◌, length, refl, sym, ap, ◌∙◌, subst, inl, inr, ⊎_elim, arith, Option, None}
-use mathlib.Core.List.{IsPrefix}
 use Rattle.publication.specs.View.{StartsWith}
 use Rattle.publication.specs.Chronicle.{IsOpen, IsSettled}
 use Rattle.publication.specs.Readers.{IsTold}
 use Rattle.publication.specs.declared.knowledge.Knowledge.{Knowledge}
-use Rattle.publication.proofs.Logs.{prefix_whole, closed_all, prefix_then, prefix_length, shorter, starts_same, within_closed}
+use Rattle.publication.proofs.Logs.{prefix_whole, closed_all, starts_then, prefix_length, shorter, starts_same, within_closed}
 
 either_true : (a b : Bool) → (a || b) ≡ true → (a ≡ true) ⊎ (b ≡ true)
 either_true true b h = inl refl
@@ -16,8 +15,8 @@ module _ {E : Type 0} where
   pub record Meet (mine other : Knowledge E) (all : List (Option E)) : Type 0 where
     pub mine_told : IsTold mine
     pub other_told : IsTold other
-    pub mine_all : IsPrefix mine.all.log all
-    pub other_all : IsPrefix other.all.log all
+    pub mine_all : StartsWith all mine.all.log
+    pub other_all : StartsWith all other.all.log
     pub settled : IsSettled all
 
   -- the log is the longer of the two that were told, and that is its length
@@ -27,13 +26,13 @@ module _ {E : Type 0} where
       × (number ≡ mine.number))
 
   mine_begins : (mine other : Knowledge E) (all : List (Option E)) → Meet mine other all
-      → IsPrefix mine.told.log all
-  mine_begins mine other all m = prefix_then mine.told.log mine.all.log all m.mine_told.begins
+      → StartsWith all mine.told.log
+  mine_begins mine other all m = starts_then mine.told.log mine.all.log all m.mine_told.begins
       m.mine_all
 
   other_begins : (mine other : Knowledge E) (all : List (Option E)) → Meet mine other all
-      → IsPrefix other.told.log all
-  other_begins mine other all m = prefix_then other.told.log other.all.log all m.other_told.begins
+      → StartsWith all other.told.log
+  other_begins mine other all m = starts_then other.told.log other.all.log all m.other_told.begins
       m.other_all
 
   pub longer_mine : (mine other : Knowledge E) (all log : List (Option E)) (number : ℕ)
@@ -70,12 +69,12 @@ module _ {E : Type 0} where
   mine_closed : (mine other : Knowledge E) (all : List (Option E)) → Meet mine other all
       → mine.closed ≡ true → all ≡ mine.told.log ++ None ∷ []
   mine_closed mine other all m closed = closed_all mine.told.log all m.mine_told.unclosed m.settled
-      (subst (λ (l : List (Option E)). IsPrefix l all) (m.mine_told.last closed) m.mine_all)
+      (subst (λ (l : List (Option E)). StartsWith all l) (m.mine_told.last closed) m.mine_all)
 
   other_closed : (mine other : Knowledge E) (all : List (Option E)) → Meet mine other all
       → other.closed ≡ true → all ≡ other.told.log ++ None ∷ []
   other_closed mine other all m closed = closed_all other.told.log all m.other_told.unclosed
-      m.settled (subst (λ (l : List (Option E)). IsPrefix l all) (m.other_told.last closed)
+      m.settled (subst (λ (l : List (Option E)). StartsWith all l) (m.other_told.last closed)
       m.other_all)
 
   pub longer_mine_last : (mine other : Knowledge E) (all log : List (Option E)) (number : ℕ)
@@ -120,12 +119,12 @@ module _ {E : Type 0} where
       (either_true mine.closed other.closed closed)
 
   pub longer_begins : (mine other : Knowledge E) (all log : List (Option E)) (number : ℕ)
-      → Meet mine other all → Longer mine other log number → IsPrefix log all
+      → Meet mine other all → Longer mine other log number → StartsWith all log
   longer_begins mine other all log number m longer = ⊎_elim
       (λ (t : (mine.number < other.number) × (log ≡ other.told.log) × (number ≡ other.number)).
-      subst (λ (l : List (Option E)). IsPrefix l all) (sym t.1) (other_begins mine other all m))
+      subst (λ (l : List (Option E)). StartsWith all l) (sym t.1) (other_begins mine other all m))
       (λ (t : (other.number ≤ mine.number) × (log ≡ mine.told.log) × (number ≡ mine.number)).
-      subst (λ (l : List (Option E)). IsPrefix l all) (sym t.1) (mine_begins mine other all m))
+      subst (λ (l : List (Option E)). StartsWith all l) (sym t.1) (mine_begins mine other all m))
       longer
 
   pub longer_unclosed : (mine other : Knowledge E) (all log : List (Option E)) (number : ℕ)

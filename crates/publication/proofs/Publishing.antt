@@ -1,5 +1,5 @@
 -- What a publisher keeps, from one publication to the next.
-use Rattle.std.proofs.Common.{◌≡◌, ℕ, ◌+◌, Bool, true, false, List, [], ◌∷◌, ◌++◌, length, refl, sym, ap, ◌∙◌, subst, append_assoc, length-append, arith, Option, Some, None}
+use Rattle.std.proofs.Common.{◌≡◌, ℕ, ◌+◌, Bool, true, false, List, [], ◌∷◌, ◌++◌, length, refl, sym, ap, ◌∙◌, subst, length-append, arith, Option, Some, None}
 use Rattle.std.proofs.lemmas.List.{append-nil}
 use Rattle.std.specs.Arc.{arc_value}
 use Rattle.logbook.specs.Pages.{Named}
@@ -12,7 +12,7 @@ use Rattle.publication.specs.Publishers.{IsPublisher}
 use Rattle.publication.specs.Readers.{IsTold}
 use Rattle.publication.specs.declared.slot.Slot.{Slot}
 use Rattle.publication.specs.declared.chronicle.Chronicle.{Chronicle}
-use Rattle.publication.proofs.Logs.{open_more}
+use Rattle.publication.proofs.Logs.{open_more, starts_same, starts_then}
 use Rattle.publication.proofs.Reading.{editions_append, editions_length}
 
 abbrev Token : Type 0 → Type 0
@@ -53,11 +53,8 @@ module _ {E : Type 0} where
         origin_book = p.origin_book ∙ sym books;
         one = p.one;
         first = p.first;
-        informed = subst (λ (l : List (Option E)). StartsWith l origin.log) (sym logs) (
-          p.informed.0 ++ later.0,
-          later.1 ∙ ap (λ l. l ++ later.0) p.informed.1
-              ∙ append_assoc origin.log p.informed.0 later.0,
-        );
+        informed = subst (λ (l : List (Option E)). StartsWith l origin.log) (sym logs)
+            (starts_then origin.log slot.log.log change.log.log p.informed later);
         all = λ _. sym logs;
         next = λ _. record {
           book = next_book ∙ sym books;
@@ -102,7 +99,7 @@ module _ {E : Type 0} where
     number = p.sound.number;
     informed = p.informed;
     unclosed = p.sound.unclosed;
-    begins = ([], append-nil slot.log.log);
+    begins = starts_same slot.log.log;
     last = λ h. absurd (cc (h));
   }
 
@@ -124,7 +121,7 @@ module _ {E : Type 0} where
     number = p.sound.number;
     informed = p.informed;
     unclosed = p.sound.unclosed;
-    begins = (None ∷ [], sym (p.last refl));
+    begins = (None ∷ [], p.last refl);
     last = p.last;
   }
 

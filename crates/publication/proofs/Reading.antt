@@ -4,16 +4,14 @@ use Rattle.std.proofs.lemmas.List.{append-nil}
 use Rattle.std.proofs.lemmas.List.Elements.{All-append, All-cons, All-nil}
 use Rattle.std.proofs.lemmas.List.Sorted.{IsNonDecreasingBy-push}
 use Rattle.std.specs.List.Sorted.{IsNonDecreasing}
-use mathlib.Core.List.{IsPrefix}
 use Rattle.logbook.specs.declared.tokens.Seen.{Seen}
 use Rattle.publication.specs.View.{EndsWith, IsView, OnlySees, StartsWith}
 use Rattle.publication.specs.Chronicle.{editions_of, IsOpen}
-use Rattle.publication.specs.Readers.{IsTold, IsReader, IsNoted, SeesMore, SeesNothing, Notes, NotesLook, Glimpses, view_by}
+use Rattle.publication.specs.Readers.{IsTold, IsReader, IsNoted, SeesMore, SeesNothing, Glimpses, view_by}
 use Rattle.publication.specs.declared.knowledge.Knowledge.{Knowledge}
 use Rattle.publication.specs.declared.rule.Sight.{Sight}
 use Rattle.publication.specs.declared.chronicle.Chronicle.{Chronicle}
-use Rattle.publication.proofs.Steps.{starts_then}
-use Rattle.publication.proofs.Logs.{prefix_whole, closed_all, prefix_then, prefix_length, shorter, within_closed}
+use Rattle.publication.proofs.Logs.{prefix_whole, closed_all, starts_then, prefix_length, shorter, within_closed}
 
 abbrev Token : Type 0 → Type 0
 Token E = Seen (Option E) ℕ Chronicle
@@ -69,10 +67,6 @@ module _ {E : Type 0} where
       (editions_of same)
   editions_same log same e = ([], ap editions_of e ∙ sym (append-nil (editions_of same)))
 
-  pub editions_begin : (front log : List (Option E)) → IsPrefix front log → StartsWith
-      (editions_of log) (editions_of front)
-  editions_begin front log p = editions_start log front (p.0, sym p.1)
-
   pub editions_end : (log : List (Option E)) (edition : E) → EndsWith log (Some edition)
       → EndsWith (editions_of log) edition
   editions_end log edition e = (
@@ -82,8 +76,8 @@ module _ {E : Type 0} where
   )
 
   -- what was seen begins with the opening, once it is something
-  begun : (seen origin all : List (Option E)) → length origin ≡ 1 → IsPrefix seen all
-      → IsPrefix origin all → (editions_of seen ≡ []) ⊎ StartsWith (editions_of seen)
+  begun : (seen origin all : List (Option E)) → length origin ≡ 1 → StartsWith all seen
+      → StartsWith all origin → (editions_of seen ≡ []) ⊎ StartsWith (editions_of seen)
       (editions_of origin)
   begun [] origin all one p q = inl refl
   begun (entry ∷ seen) origin all one p q = inr (editions_start (entry ∷ seen) origin
@@ -92,12 +86,12 @@ module _ {E : Type 0} where
   pub view_holds : (sight : Sight E) (seen : Token E) (count : ℕ) (known : Knowledge E)
       → IsReader sight seen count known → IsView (view_by sight seen known)
   view_holds sight seen count known r =
-      let origin : IsPrefix known.origin.log known.all.log = prefix_then known.origin.log
-      known.told.log known.all.log (r.told.informed.0, sym r.told.informed.1) r.told.begins in
+      let origin : StartsWith known.all.log known.origin.log = starts_then known.origin.log
+      known.told.log known.all.log r.told.informed r.told.begins in
       record {
         history = editions_of known.all.log;
-        seen_begins = editions_begin seen.log known.all.log r.begins;
-        told_begins = editions_begin known.told.log known.all.log r.told.begins;
+        seen_begins = editions_start known.all.log seen.log r.begins;
+        told_begins = editions_start known.all.log known.told.log r.told.begins;
         informed = editions_start known.told.log known.origin.log r.told.informed;
         begins = begun seen.log known.origin.log known.all.log r.told.one r.begins origin;
         rising = r.rising;
@@ -106,7 +100,7 @@ module _ {E : Type 0} where
         looks_rising = r.rising_looks;
         looks_known = λ i d lt. let k = r.looked i d lt in
             (k.0, omega (arith, k.1, editions_length seen.log r.unclosed));
-        within = λ closed. editions_begin seen.log known.told.log
+        within = λ closed. editions_start known.told.log seen.log
             (within_closed known.told.log known.all.log seen.log (r.told.last closed) r.unclosed
             r.begins);
       }
@@ -122,9 +116,9 @@ module _ {E : Type 0} where
     number = t.number;
     informed = t.informed;
     unclosed = t.unclosed;
-    begins = prefix_then known.told.log known.all.log all.log t.begins s.kept;
+    begins = starts_then known.told.log known.all.log all.log t.begins s.kept;
     last = λ closed. closed_all known.told.log all.log t.unclosed s.settled
-        (subst (λ (l : List (Option E)). IsPrefix l all.log) (t.last closed) s.kept);
+        (subst (λ (l : List (Option E)). StartsWith all.log l) (t.last closed) s.kept);
   }
 
   pub sees_then : (before mid after : Sight E) (known some all : Token E)
@@ -137,7 +131,7 @@ module _ {E : Type 0} where
     unclosed = t.unclosed;
     some = t.some;
     all_book = t.all_book ∙ s.all_book;
-    kept = prefix_then known.log some.log all.log s.kept t.kept;
+    kept = starts_then known.log some.log all.log s.kept t.kept;
     begins = t.begins;
     settled = t.settled;
   }
@@ -167,8 +161,8 @@ module _ {E : Type 0} where
   longer : (before after : Sight E) (seen : Token E) (count : ℕ) (known : Knowledge E)
       (all : Token E) → IsReader before seen count known → SeesMore before after known.all all
       → length seen.log ≤ length after.seen.log
-  longer before after seen count known all r s = let l = seen_later before after seen count known
-      all r s in prefix_length seen.log after.seen.log (l.0, sym l.1)
+  longer before after seen count known all r s = prefix_length seen.log after.seen.log
+      (seen_later before after seen count known all r s)
 
   pub late_enough : (before : Sight E) (seen : Token E) (count : ℕ) (known : Knowledge E)
       → IsReader before seen count known → known.number ≤ count → known.number
@@ -178,7 +172,7 @@ module _ {E : Type 0} where
     le,
     r.counted,
     prefix_length seen.log
-        before.seen.log (r.within.0, sym r.within.1),
+        before.seen.log r.within,
   )
 
   module _ (before after : Sight E) (seen : Token E) (count : ℕ) (known : Knowledge E)
@@ -196,7 +190,7 @@ module _ {E : Type 0} where
           book = s.book ∙ r.book;
           counted = n.counted ∙ ap length (sym n.is);
           unclosed = subst (λ (l : List (Option E)). IsOpen l) (sym n.is) s.unclosed;
-          begins = subst (λ (l : List (Option E)). IsPrefix l all.log) (sym n.is) s.begins;
+          begins = subst (λ (l : List (Option E)). StartsWith all.log l) (sym n.is) s.begins;
           within = ([], sym n.is ∙ sym (append-nil noted.log));
           rising = entries.rising;
           entered = subst (P after.entries) (sym n.is) entries.within;
@@ -204,7 +198,8 @@ module _ {E : Type 0} where
           looked = subst (P after.looks) (sym n.is) looks.within;
         }
 
-    pub looked : after.entries ≡ before.entries → NotesLook before after
+    pub looked : after.entries ≡ before.entries
+        → after.looks ≡ before.looks ++ length after.seen.log ∷ []
         → IsReader after noted number (record known { all = all })
     looked same notes =
         let le = longer before after seen count known all r s in
@@ -214,7 +209,8 @@ module _ {E : Type 0} where
         (one_more before.looks after.looks (length seen.log) (length after.seen.log) s.some le notes
         (record { rising = r.rising_looks; within = r.looked }))
 
-    pub entered : Notes before after → after.looks ≡ before.looks
+    pub entered : after.entries ≡ before.entries ++ length after.seen.log ∷ []
+        → after.looks ≡ before.looks
         → IsReader after noted number (record known { all = all })
     entered notes same =
         let le = longer before after seen count known all r s in
@@ -229,7 +225,7 @@ module _ {E : Type 0} where
         (editions_of known.told.log)
     informed late = editions_start noted.log known.told.log
         (subst (λ (l : List (Option E)). StartsWith l known.told.log) (sym n.is)
-        (shorter known.told.log after.seen.log all.log (prefix_then known.told.log known.all.log
+        (shorter known.told.log after.seen.log all.log (starts_then known.told.log known.all.log
         all.log r.told.begins s.kept) s.begins (omega (arith, late, r.told.number))))
 
     pub last : known.number ≤ length after.seen.log → known.closed ≡ true → editions_of noted.log
@@ -255,13 +251,13 @@ module _ {E : Type 0} where
       view = view_holds after noted number (record known { all = all }) is;
     }
 
-    pub gains : Notes before after → after.entries ≡ before.entries ++ length
-        (editions_of noted.log) ∷ []
+    pub gains : after.entries ≡ before.entries ++ length after.seen.log ∷ []
+        → after.entries ≡ before.entries ++ length (editions_of noted.log) ∷ []
     gains notes = notes ∙ ap (λ k. before.entries ++ k ∷ [])
         (sym (ap (λ l. length (editions_of l)) n.is ∙ editions_length after.seen.log s.unclosed))
 
-    pub gains_look : NotesLook before after → after.looks ≡ before.looks ++ length
-        (editions_of noted.log) ∷ []
+    pub gains_look : after.looks ≡ before.looks ++ length after.seen.log ∷ []
+        → after.looks ≡ before.looks ++ length (editions_of noted.log) ∷ []
     gains_look notes = notes ∙ ap (λ k. before.looks ++ k ∷ [])
         (sym (ap (λ l. length (editions_of l)) n.is ∙ editions_length after.seen.log s.unclosed))
 
@@ -291,7 +287,7 @@ module _ {E : Type 0} where
         book = s.book ∙ r.book;
         counted = r.counted;
         unclosed = r.unclosed;
-        begins = prefix_then seen.log known.all.log all.log r.begins s.kept;
+        begins = starts_then seen.log known.all.log all.log r.begins s.kept;
         within = seen_later before after seen count known all r s;
         rising = subst IsNonDecreasing (sym same) r.rising;
         entered = subst (All (λ number. (1 ≤ number) × (number ≤ length seen.log)))

@@ -1,5 +1,5 @@
 -- Each kind of step keeps the rule of the publication.
-use Rattle.std.proofs.Common.{◌≡◌, ◌≢◌, ℕ, List, [], ◌∷◌, ◌++◌, length, set, refl, sym, ap, ◌∙◌, subst, append_assoc, ⊎_elim, Some}
+use Rattle.std.proofs.Common.{◌≡◌, ◌≢◌, ℕ, List, [], ◌∷◌, ◌++◌, length, set, refl, sym, ap, ◌∙◌, subst, ⊎_elim, Some}
 use Rattle.std.proofs.lemmas.List.{append-nil}
 use mathlib.Core.Option.{some}
 use lib.ListN.{get_elem?}
@@ -11,18 +11,7 @@ use Rattle.publication.specs.Slots.{IsSound, shown}
 use Rattle.publication.specs.declared.slot.Slot.{Slot}
 use Rattle.publication.specs.declared.rule.Sight.{Sight}
 use Rattle.publication.specs.Rule.{Knows, Holds, EntersAt, LooksAt, GlancesAt, OpensAt, seeing, noting_entry, noting_look, told_of, blank}
-
-module _ {E : Type 0} where
-  pub starts_same : (list : List E) → StartsWith list list
-  starts_same list = ([], sym (append-nil list))
-
-  pub starts_then : (first second third : List E) → StartsWith second first
-      → StartsWith third second → StartsWith third first
-  starts_then first second third one two = (
-    one.0 ++ two.0,
-    two.1 ∙ ap (λ l. l ++ two.0) one.1
-        ∙ append_assoc first one.0 two.0,
-  )
+use Rattle.publication.proofs.Logs.{starts_then}
 
 module _ {E : Type 0} where
   pub sound_same : (next change : Slot E) → shown next ≡ shown change → IsSound change

@@ -1,6 +1,7 @@
 -- Cited by public clauses.
 pub mod View
 -- Cited by private clauses and proofs.
+pub mod Codes
 pub mod Chronicle
 pub mod Slots
 pub mod Rule

@@ -1,13 +1,15 @@
 -- Cited by private clauses and proofs. What a reader knows of its history, by the logs that were
 -- reached.
-use Rattle.std.specs.Prelude.{◌≡◌, ℕ, ◌≤◌, ◌⊎◌, true, [], ◌∷◌, ◌++◌, length, All, Option, None}
+use Rattle.std.specs.Prelude.{◌≡◌, ℕ, ◌≤◌, ◌⊎◌, true, [], ◌∷◌, ◌++◌, length, All, Option, None, Some, IfOk}
+use Rattle.std.specs.Arc.{arc_value}
 use Rattle.std.specs.List.Sorted.{IsNonDecreasing}
-use mathlib.Core.List.{IsPrefix}
 use Rattle.logbook.specs.declared.tokens.Seen.{Seen}
-use Rattle.publication.specs.View.{History, Opening, StartsWith, View}
+use Rattle.publication.specs.View.{EndsWith, History, Opening, StartsWith, View}
 use Rattle.publication.specs.Chronicle.{editions_of, IsOpen, IsSettled}
 use Rattle.publication.specs.declared.rule.Sight.{Sight}
 use Rattle.publication.specs.declared.knowledge.Knowledge.{Knowledge}
+use Rattle.publication.specs.declared.reader.Noted.{Noted}
+use Rattle.publication.specs.declared.reader.Sighting.{Sighting}
 
 module _ {E : Type 0} where
   abbrev pub opening_by : {P : Type 0} → Seen (Option E) ℕ P → Opening E
@@ -40,7 +42,7 @@ module _ {E : Type 0} where
     pub number : known.number ≡ length known.told.log
     pub informed : StartsWith known.told.log known.origin.log
     pub unclosed : IsOpen known.told.log
-    pub begins : IsPrefix known.told.log known.all.log
+    pub begins : StartsWith known.all.log known.told.log
     pub last : known.closed ≡ true → known.all.log ≡ known.told.log ++ None ∷ []
 
   -- what was seen begins all that is known, too, and what the sight has seen
@@ -51,12 +53,27 @@ module _ {E : Type 0} where
     pub book : sight.seen.book ≡ known.origin.book
     pub counted : count ≡ length seen.log
     pub unclosed : IsOpen seen.log
-    pub begins : IsPrefix seen.log known.all.log
+    pub begins : StartsWith known.all.log seen.log
     pub within : StartsWith sight.seen.log seen.log
     pub rising : IsNonDecreasing sight.entries
     pub entered : All (λ number. (1 ≤ number) × (number ≤ length seen.log)) sight.entries
     pub rising_looks : IsNonDecreasing sight.looks
     pub looked : All (λ number. (1 ≤ number) × (number ≤ length seen.log)) sight.looks
+
+  -- the sight has learnt that its opening was published, and what is known is of that opening
+  pub record KnowsOpening {P : Type 0} (sight : Sight E) (known : Seen (Option E) ℕ P) : Type 0
+    where
+      pub opened : sight.opened ≡ true
+      pub book : known.book ≡ sight.seen.book
+
+  -- What readers are made of at an opening: the log before its first entry, the log with it, and a
+  -- sight that has learnt of it.
+  pub record IsOpening {P : Type 0} (nothing origin : Seen (Option E) ℕ P) (sight : Sight E) :
+      Type 0 where
+    pub empty : nothing.log ≡ []
+    pub one : length origin.log ≡ 1
+    pub unclosed : IsOpen origin.log
+    pub knows : KnowsOpening sight origin
 
   -- a step by which a reader sees more, and so knows more
   pub record SeesMore {P : Type 0} (before after : Sight E) (known all : Seen (Option E) ℕ P) :
@@ -67,17 +84,9 @@ module _ {E : Type 0} where
     pub unclosed : IsOpen after.seen.log
     pub some : 1 ≤ length after.seen.log
     pub all_book : all.book ≡ known.book
-    pub kept : IsPrefix known.log all.log
-    pub begins : IsPrefix after.seen.log all.log
+    pub kept : StartsWith all.log known.log
+    pub begins : StartsWith all.log after.seen.log
     pub settled : IsSettled all.log
-
-  -- and notes it as an entry
-  abbrev pub Notes : Sight E → Sight E → Type 0
-  Notes before after = after.entries ≡ before.entries ++ length after.seen.log ∷ []
-
-  -- and notes it as a look
-  abbrev pub NotesLook : Sight E → Sight E → Type 0
-  NotesLook before after = after.looks ≡ before.looks ++ length after.seen.log ∷ []
 
   -- nothing was seen
   abbrev pub SeesNothing : {P : Type 0} → Sight E → Sight E → Seen (Option E) ℕ P
@@ -89,8 +98,7 @@ module _ {E : Type 0} where
       Type 0 where
     pub entries : after.entries ≡ before.entries
     pub looks : after.looks ≡ before.looks
-    pub opened : after.opened ≡ true
-    pub book : all.book ≡ after.seen.book
+    pub opening : KnowsOpening after all
     pub sees : SeesNothing before after known all ⊎ SeesMore before after known all
 
   -- what was seen in a step, as the reader keeps it
@@ -98,3 +106,22 @@ module _ {E : Type 0} where
       Type 0 where
     pub is : seen.log ≡ after.seen.log
     pub counted : count ≡ length after.seen.log
+
+  -- more was seen, and noted as an entry, which gives the newest edition where it gives one
+  pub record NotesEntry {P : Type 0} (before after : Sight E) (known all : Seen (Option E) ℕ P)
+      (noted : Noted E) : Type 0 where
+    pub sees : SeesMore before after known all
+    pub entry : after.entries ≡ before.entries ++ length after.seen.log ∷ []
+    pub looks : after.looks ≡ before.looks
+    pub seen : IsNoted after noted.sighting.seen noted.sighting.count
+    pub number : IfOk noted.entered (λ entered. entered.number ≡ length after.seen.log)
+    pub edition : IfOk noted.entered
+        (λ entered. EndsWith after.seen.log (Some (arc_value entered.edition)))
+
+  -- more was seen, and noted as a look
+  pub record NotesLook {P : Type 0} (before after : Sight E) (known all : Seen (Option E) ℕ P)
+      (sighting : Sighting E) : Type 0 where
+    pub sees : SeesMore before after known all
+    pub look : after.looks ≡ before.looks ++ length after.seen.log ∷ []
+    pub entries : after.entries ≡ before.entries
+    pub seen : IsNoted after sighting.seen sighting.count

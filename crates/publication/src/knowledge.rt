@@ -1,7 +1,6 @@
 //! What is known of a history from what was told of it.
 
 ghost use Rattle.std.specs.Prelude.{◌≡◌, ◌⊎◌, true, ◌||◌};
-ghost use mathlib.Core.List.{IsPrefix};
 ghost use Rattle.publication.specs.View.{StartsWith};
 ghost use Rattle.publication.specs.Readers.{IsTold};
 
@@ -33,7 +32,7 @@ pub(crate) fn joined<E>(mine: &Knowledge<E>, other: &Knowledge<E>) -> Knowledge<
         ⊎ (result.told.log ≡ other.now.told.log) }
     ensures mine { StartsWith result.told.log mine.now.told.log }
     ensures other { StartsWith result.told.log other.now.told.log }
-    ensures kept { IsPrefix mine.now.all.log result.all.log }
+    ensures kept { StartsWith result.all.log mine.now.all.log }
     ensures closed { result.closed ≡ (mine.now.closed || other.now.closed) }
     ensures mine_last { mine.now.closed ≡ true → result.told.log ≡ mine.now.told.log }
     ensures other_last { other.now.closed ≡ true → result.told.log ≡ other.now.told.log }

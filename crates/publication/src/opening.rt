@@ -6,7 +6,7 @@ ghost use Rattle.left_right.specs.Sides.{view as sight};
 ghost use Rattle.publication.specs.View.{newcomer};
 ghost use Rattle.publication.specs.Chronicle.{IsOpen};
 ghost use Rattle.publication.specs.Slots.{IsSound, shown};
-ghost use Rattle.publication.specs.Readers.{IsTold, opening_by};
+ghost use Rattle.publication.specs.Readers.{IsOpening, IsTold, opening_by};
 
 use crate::chronicle::{Token, open_log};
 use crate::knowledge::Knowledge;
@@ -91,11 +91,7 @@ fn add_reader<E: Drop>(
     nothing: &Token<E>,
     origin: &Token<E>,
 ) -> Mem<EditionReader<E>>
-    requires nothing { nothing.now.log ≡ [] }
-    requires one { length origin.now.log ≡ 1 }
-    requires unclosed { IsOpen origin.now.log }
-    requires opened { (sight writer.old.desk.place).opened ≡ true }
-    requires book { (sight writer.old.desk.place).seen.book ≡ origin.now.book }
+    requires opening { IsOpening nothing.now origin.now (sight writer.old.desk.place) }
     ensures shown { writer.new.desk.shown ≡ writer.old.desk.shown }
     ensures pending { drop writer.new.behind writer.new.log.items
         ≡ drop writer.old.behind writer.old.log.items }
@@ -116,11 +112,7 @@ fn add_readers<E: Drop>(
     origin: &Token<E>,
     readers: u32,
 ) -> Mem<Vec<EditionReader<E>>>
-    requires nothing { nothing.now.log ≡ [] }
-    requires one { length origin.now.log ≡ 1 }
-    requires unclosed { IsOpen origin.now.log }
-    requires opened { (sight writer.old.desk.place).opened ≡ true }
-    requires book { (sight writer.old.desk.place).seen.book ≡ origin.now.book }
+    requires opening { IsOpening nothing.now origin.now (sight writer.old.desk.place) }
     ensures shown { writer.new.desk.shown ≡ writer.old.desk.shown }
     ensures pending { drop writer.new.behind writer.new.log.items
         ≡ drop writer.old.behind writer.old.log.items }

@@ -42,7 +42,8 @@ where
     Slot<E>: Absorb<Slot<E>, State = Shown<E>>,
 {
     ghost use Rattle.std.specs.Prelude.{◌≡◌, [], drop};
-    ghost use Rattle.publication.specs.View.{History, history_code};
+    ghost use Rattle.publication.specs.View.{History};
+    ghost use Rattle.publication.specs.Codes.{history_code};
     ghost use Rattle.publication.specs.Chronicle.{editions_of};
     ghost use Rattle.publication.specs.Readers.{opening_by};
     ghost use Rattle.publication.specs.Publishers.{IsPublisher};

@@ -4,7 +4,7 @@ ghost use Rattle.std.specs.Prelude.{◌≡◌, ℕ, ◌≤◌, ◌⊎◌, Some, 
 ghost use Rattle.std.specs.Arc.{arc_value};
 ghost use Rattle.left_right.specs.Sides.{view as sight};
 ghost use Rattle.publication.specs.View.{EndsWith, GainsEntry, GainsLook, IsView, OnlySees, ShareHistory, StartsWith};
-ghost use Rattle.publication.specs.Readers.{Glimpses, IsNoted, IsReader, IsTold, Notes, NotesLook, SeesMore, SeesNothing, history_by, view_by};
+ghost use Rattle.publication.specs.Readers.{Glimpses, IsReader, IsTold, KnowsOpening, NotesEntry, NotesLook, SeesNothing, history_by, view_by};
 
 use crate::chronicle::Token;
 use crate::knowledge::{Knowledge, joined};
@@ -34,7 +34,8 @@ pub struct Told<E> {
 }
 
 impl<E> Model for Told<E> {
-    ghost use Rattle.publication.specs.View.{History, history_code};
+    ghost use Rattle.publication.specs.View.{History};
+    ghost use Rattle.publication.specs.Codes.{history_code};
     ghost use Rattle.publication.specs.Readers.{IsTold, history_by};
 
     ghost Value = { History E };
@@ -66,7 +67,8 @@ pub struct EditionReader<E: Drop> {
 
 impl<E: Drop> Model for EditionReader<E> {
     ghost use Rattle.left_right.specs.Sides.{view as sight};
-    ghost use Rattle.publication.specs.View.{View, view_code};
+    ghost use Rattle.publication.specs.View.{View};
+    ghost use Rattle.publication.specs.Codes.{view_code};
     ghost use Rattle.publication.specs.Readers.{IsReader, view_by};
 
     ghost Value = { View E };
@@ -119,17 +121,9 @@ fn enter_once<E: Drop>(
     reader: SlotReader<E>,
     known: Token<E>,
 ) -> (SlotReader<E>, (Token<E>, Mem<Noted<E>>))
-    requires opened { (sight reader.place).opened ≡ true }
-    requires book { known.book ≡ (sight reader.place).seen.book }
-    ensures looks { (sight result.0.place).looks ≡ (sight reader.place).looks }
-    ensures ok { OnOk result.1.1 (SeesMore (sight reader.place)
-        (sight result.0.place) known result.1.0
-        × Notes (sight reader.place) (sight result.0.place)) }
-    ensures noted { IfOk result.1.1 (λ noted. IsNoted
-        (sight result.0.place) noted.sighting.seen noted.sighting.count) }
-    ensures entered { IfOk result.1.1 (λ noted. IfOk noted.entered (λ entered.
-        (entered.number ≡ length (sight result.0.place).seen.log)
-        × EndsWith (sight result.0.place).seen.log (Some (arc_value entered.edition)))) }
+    requires opening { KnowsOpening (sight reader.place) known }
+    ensures ok { IfOk result.1.1
+        (NotesEntry (sight reader.place) (sight result.0.place) known result.1.0) }
     ensures err { OnErr result.1.1 (SeesNothing (sight reader.place)
         (sight result.0.place) known result.1.0) }
 {
@@ -153,14 +147,9 @@ fn look_once<E: Drop>(
     reader: SlotReader<E>,
     known: Token<E>,
 ) -> (SlotReader<E>, (Token<E>, Mem<Sighting<E>>))
-    requires opened { (sight reader.place).opened ≡ true }
-    requires book { known.book ≡ (sight reader.place).seen.book }
-    ensures entries { (sight result.0.place).entries ≡ (sight reader.place).entries }
-    ensures ok { OnOk result.1.1 (SeesMore (sight reader.place)
-        (sight result.0.place) known result.1.0
-        × NotesLook (sight reader.place) (sight result.0.place)) }
-    ensures seen { IfOk result.1.1 (λ sighting. IsNoted
-        (sight result.0.place) sighting.seen sighting.count) }
+    requires opening { KnowsOpening (sight reader.place) known }
+    ensures ok { IfOk result.1.1
+        (NotesLook (sight reader.place) (sight result.0.place) known result.1.0) }
     ensures err { OnErr result.1.1 (SeesNothing (sight reader.place)
         (sight result.0.place) known result.1.0) }
 {
@@ -182,8 +171,7 @@ fn glance_once<E: Drop>(
     known: Token<E>,
     least: u64,
 ) -> (SlotReader<E>, (Token<E>, Mem<()>))
-    requires opened { (sight reader.place).opened ≡ true }
-    requires book { known.book ≡ (sight reader.place).seen.book }
+    requires opening { KnowsOpening (sight reader.place) known }
     ensures glimpses { Glimpses (sight reader.place) (sight result.0.place) known result.1.0 }
     ensures late { OnOk result.1.1 (least ≤ length (sight result.0.place).seen.log) }
 {
@@ -193,6 +181,7 @@ fn glance_once<E: Drop>(
             let slot = reading.get();
             let mut known = known;
             known.learn(&slot.log);
+            // Never so: what was told is published by then. No clause of `left_right` shows it.
             let is_late = if slot.number < least {
                 Err(NoMemory)
             } else {
@@ -205,17 +194,9 @@ fn glance_once<E: Drop>(
 
 // Enters once through a reference. It gives back what is known then.
 fn enter_at<E: Drop>(reader: &mut SlotReader<E>, known: Token<E>) -> (Token<E>, Mem<Noted<E>>)
-    requires opened { (sight reader.old.place).opened ≡ true }
-    requires book { known.book ≡ (sight reader.old.place).seen.book }
-    ensures looks { (sight reader.new.place).looks ≡ (sight reader.old.place).looks }
-    ensures ok { OnOk result.1 (SeesMore (sight reader.old.place)
-        (sight reader.new.place) known result.0
-        × Notes (sight reader.old.place) (sight reader.new.place)) }
-    ensures noted { IfOk result.1 (λ noted. IsNoted
-        (sight reader.new.place) noted.sighting.seen noted.sighting.count) }
-    ensures entered { IfOk result.1 (λ noted. IfOk noted.entered (λ entered.
-        (entered.number ≡ length (sight reader.new.place).seen.log)
-        × EndsWith (sight reader.new.place).seen.log (Some (arc_value entered.edition)))) }
+    requires opening { KnowsOpening (sight reader.old.place) known }
+    ensures ok { IfOk result.1
+        (NotesEntry (sight reader.old.place) (sight reader.new.place) known result.0) }
     ensures err { OnErr result.1 (SeesNothing (sight reader.old.place)
         (sight reader.new.place) known result.0) }
 {
@@ -224,14 +205,9 @@ fn enter_at<E: Drop>(reader: &mut SlotReader<E>, known: Token<E>) -> (Token<E>, 
 
 // Looks once through a reference. It gives back what is known then.
 fn look_at<E: Drop>(reader: &mut SlotReader<E>, known: Token<E>) -> (Token<E>, Mem<Sighting<E>>)
-    requires opened { (sight reader.old.place).opened ≡ true }
-    requires book { known.book ≡ (sight reader.old.place).seen.book }
-    ensures entries { (sight reader.new.place).entries ≡ (sight reader.old.place).entries }
-    ensures ok { OnOk result.1 (SeesMore (sight reader.old.place)
-        (sight reader.new.place) known result.0
-        × NotesLook (sight reader.old.place) (sight reader.new.place)) }
-    ensures seen { IfOk result.1 (λ sighting. IsNoted
-        (sight reader.new.place) sighting.seen sighting.count) }
+    requires opening { KnowsOpening (sight reader.old.place) known }
+    ensures ok { IfOk result.1
+        (NotesLook (sight reader.old.place) (sight reader.new.place) known result.0) }
     ensures err { OnErr result.1 (SeesNothing (sight reader.old.place)
         (sight reader.new.place) known result.0) }
 {
@@ -246,8 +222,7 @@ fn catch_up<E: Drop>(
     least: u64,
     is_behind: bool,
 ) -> (Token<E>, Mem<()>)
-    requires opened { (sight reader.old.place).opened ≡ true }
-    requires book { known.book ≡ (sight reader.old.place).seen.book }
+    requires opening { KnowsOpening (sight reader.old.place) known }
     requires late { is_behind ≡ false → least ≤ length (sight reader.old.place).seen.log }
     ensures glimpses { Glimpses (sight reader.old.place) (sight reader.new.place) known result.0 }
     ensures late { OnOk result.1 (least ≤ length (sight reader.new.place).seen.log) }
@@ -269,19 +244,11 @@ fn enter_informed<E: Drop>(
     least: u64,
     is_behind: bool,
 ) -> (Token<E>, Mem<Noted<E>>)
-    requires opened { (sight reader.old.place).opened ≡ true }
-    requires book { known.book ≡ (sight reader.old.place).seen.book }
+    requires opening { KnowsOpening (sight reader.old.place) known }
     requires late { is_behind ≡ false → least ≤ length (sight reader.old.place).seen.log }
-    ensures looks { (sight reader.new.place).looks ≡ (sight reader.old.place).looks }
-    ensures ok { OnOk result.1 (SeesMore (sight reader.old.place)
-        (sight reader.new.place) known result.0
-        × Notes (sight reader.old.place) (sight reader.new.place)) }
+    ensures ok { IfOk result.1
+        (NotesEntry (sight reader.old.place) (sight reader.new.place) known result.0) }
     ensures late { OnOk result.1 (least ≤ length (sight reader.new.place).seen.log) }
-    ensures noted { IfOk result.1 (λ noted. IsNoted
-        (sight reader.new.place) noted.sighting.seen noted.sighting.count) }
-    ensures entered { IfOk result.1 (λ noted. IfOk noted.entered (λ entered.
-        (entered.number ≡ length (sight reader.new.place).seen.log)
-        × EndsWith (sight reader.new.place).seen.log (Some (arc_value entered.edition)))) }
     ensures err { OnErr result.1 (Glimpses (sight reader.old.place)
         (sight reader.new.place) known result.0) }
 {
@@ -298,16 +265,11 @@ fn look_informed<E: Drop>(
     least: u64,
     is_behind: bool,
 ) -> (Token<E>, Mem<Sighting<E>>)
-    requires opened { (sight reader.old.place).opened ≡ true }
-    requires book { known.book ≡ (sight reader.old.place).seen.book }
+    requires opening { KnowsOpening (sight reader.old.place) known }
     requires late { is_behind ≡ false → least ≤ length (sight reader.old.place).seen.log }
-    ensures entries { (sight reader.new.place).entries ≡ (sight reader.old.place).entries }
-    ensures ok { OnOk result.1 (SeesMore (sight reader.old.place)
-        (sight reader.new.place) known result.0
-        × NotesLook (sight reader.old.place) (sight reader.new.place)) }
+    ensures ok { IfOk result.1
+        (NotesLook (sight reader.old.place) (sight reader.new.place) known result.0) }
     ensures late { OnOk result.1 (least ≤ length (sight reader.new.place).seen.log) }
-    ensures seen { IfOk result.1 (λ sighting. IsNoted
-        (sight reader.new.place) sighting.seen sighting.count) }
     ensures err { OnErr result.1 (Glimpses (sight reader.old.place)
         (sight reader.new.place) known result.0) }
 {

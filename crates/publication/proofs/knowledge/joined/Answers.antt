@@ -1,8 +1,7 @@
 use Rattle.std.proofs.Common.{◌≡◌, ◌∙◌, ap, sym, subst, inl, inr, length, List, ◌||◌, rules}
-use mathlib.Core.List.{IsPrefix}
 use Rattle.publication.specs.View.{StartsWith}
 use Rattle.publication.specs.Chronicle.{IsOpen}
-use Rattle.publication.proofs.Steps.{starts_then}
+use Rattle.publication.proofs.Logs.{begins_of, starts_then}
 use Rattle.publication.proofs.Joining.{Meet, Longer, longer_mine, longer_other, longer_mine_last, longer_other_last, longer_last, longer_begins, longer_unclosed, longer_number}
 use Rattle.publication.proofs.knowledge.joined.Goals as goal
 use Rattle.publication.proofs.knowledge.joined.Goals.{then-mine-other, else-mine-other, then-mine, else-mine, Joined-mine}
@@ -11,9 +10,9 @@ meet : (g : _) (c : Joined-mine g) → Meet c.args.mine.now c.args.other.now c.l
 meet g c = record {
   mine_told = c.requires.mine;
   other_told = c.requires.other;
-  mine_all = subst (λ (l : List _). IsPrefix l c.learn.new.self.log)
-      (ap (λ s. s.log) c.again-all.ensures) c.learn.ensures.2;
-  other_all = c.learn.ensures.3;
+  mine_all = subst (λ (l : List _). StartsWith c.learn.new.self.log l)
+      (ap (λ s. s.log) c.again-all.ensures) (begins_of _ _ c.learn.ensures.2);
+  other_all = begins_of _ _ c.learn.ensures.3;
   settled = c.learn.ensures.4.1.settled;
 }
 
@@ -71,6 +70,9 @@ returns-clause-told g c =
       last = λ h. longer_last c.args.mine.now c.args.other.now all log number m l (sym (closed g c)
           ∙ h);
     }
+
+pub returns-clause-kept : goal.returns-clause-kept
+returns-clause-kept g c = (meet g c).mine_all
 
 pub returns-clause-mine : goal.returns-clause-mine
 returns-clause-mine g c = longer_mine c.args.mine.now c.args.other.now c.learn.new.self.log

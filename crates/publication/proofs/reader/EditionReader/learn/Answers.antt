@@ -4,7 +4,7 @@ use Rattle.left_right.specs.Sides.{view as sight}
 use Rattle.publication.specs.View.{StartsWith}
 use Rattle.publication.specs.Chronicle.{editions_of}
 use Rattle.publication.proofs.Reading.{editions_start, view_holds}
-use Rattle.publication.proofs.Logs.{prefix_then}
+use Rattle.publication.proofs.Logs.{starts_then}
 use Rattle.publication.proofs.reader.EditionReader.learn.Goals as goal
 
 pub returns-clause-told : goal.returns-clause-told
@@ -28,7 +28,7 @@ returns-clause-view g c =
       book = is.book ∙ sym origin;
       counted = is.counted;
       unclosed = is.unclosed;
-      begins = prefix_then _ _ _ is.begins c.joined.ensures.kept;
+      begins = starts_then _ _ _ is.begins c.joined.ensures.kept;
       within = is.within;
       rising = is.rising;
       entered = is.entered;

@@ -33,47 +33,41 @@ invariant_of-self-2 g c =
     let before = sight c.self.inside.reader.place in
     let after = sight c.look_informed-all.new.reader.place in
     let all = c.look_informed-all.result.0 in
-    let s = ok_of c.look_informed-all.result.1 c.in_ok-sighting.sighting _ c.in_ok-sighting.was
+    let s = if_of c.look_informed-all.result.1 c.in_ok-sighting.sighting _ c.in_ok-sighting.was
     c.look_informed-all.ensures.ok in
-    let noted = if_of c.look_informed-all.result.1 c.in_ok-sighting.sighting _ c.in_ok-sighting.was
-    c.look_informed-all.ensures.seen in
-    let more = subst (λ token. SeesMore before after token all) c.again-known.ensures s.0 in
+    let more = subst (λ token. SeesMore before after token all) c.again-known.ensures s.sees in
     looked before after c.self.inside.seen c.self.inside.count c.self.inside.knowledge all
-    c.in_ok-sighting.sighting.seen c.in_ok-sighting.sighting.count c.self.invariant more noted
-    c.look_informed-all.ensures.entries s.1
+    c.in_ok-sighting.sighting.seen c.in_ok-sighting.sighting.count c.self.invariant more s.seen
+    s.entries s.look
 
 pub returns-clause-look : goal.returns-clause-look
 returns-clause-look g c =
     let before = sight c.self.inside.reader.place in
     let after = sight c.look_informed-all.new.reader.place in
     let all = c.look_informed-all.result.0 in
-    let s = ok_of c.look_informed-all.result.1 c.in_ok-sighting.sighting _ c.in_ok-sighting.was
+    let s = if_of c.look_informed-all.result.1 c.in_ok-sighting.sighting _ c.in_ok-sighting.was
     c.look_informed-all.ensures.ok in
-    let noted = if_of c.look_informed-all.result.1 c.in_ok-sighting.sighting _ c.in_ok-sighting.was
-    c.look_informed-all.ensures.seen in
-    let more = subst (λ token. SeesMore before after token all) c.again-known.ensures s.0 in
+    let more = subst (λ token. SeesMore before after token all) c.again-known.ensures s.sees in
     subst (λ view. after.looks ≡ view.looks ++ length
     (editions_of c.in_ok-sighting.sighting.seen.log) ∷ []) c.self.view_is
     (gains_look before after c.self.inside.seen c.self.inside.count c.self.inside.knowledge all
-    c.in_ok-sighting.sighting.seen c.in_ok-sighting.sighting.count c.self.invariant more noted
-    s.1)
+    c.in_ok-sighting.sighting.seen c.in_ok-sighting.sighting.count c.self.invariant more s.seen
+    s.look)
 
 pub returns-clause-informed : goal.returns-clause-informed
 returns-clause-informed g c =
     let before = sight c.self.inside.reader.place in
     let after = sight c.look_informed-all.new.reader.place in
     let all = c.look_informed-all.result.0 in
-    let s = ok_of c.look_informed-all.result.1 c.in_ok-sighting.sighting _ c.in_ok-sighting.was
+    let s = if_of c.look_informed-all.result.1 c.in_ok-sighting.sighting _ c.in_ok-sighting.was
     c.look_informed-all.ensures.ok in
     let late = ok_of c.look_informed-all.result.1 c.in_ok-sighting.sighting _ c.in_ok-sighting.was
     c.look_informed-all.ensures.late in
-    let noted = if_of c.look_informed-all.result.1 c.in_ok-sighting.sighting _ c.in_ok-sighting.was
-    c.look_informed-all.ensures.seen in
-    let more = subst (λ token. SeesMore before after token all) c.again-known.ensures s.0 in
+    let more = subst (λ token. SeesMore before after token all) c.again-known.ensures s.sees in
     subst (λ view. StartsWith (editions_of c.in_ok-sighting.sighting.seen.log) view.told)
     c.self.view_is
     (informed before after c.self.inside.seen c.self.inside.count c.self.inside.knowledge all
-    c.in_ok-sighting.sighting.seen c.in_ok-sighting.sighting.count c.self.invariant more noted
+    c.in_ok-sighting.sighting.seen c.in_ok-sighting.sighting.count c.self.invariant more s.seen
     late)
 
 pub returns-clause-last : goal.returns-clause-last
@@ -81,17 +75,15 @@ returns-clause-last g c =
     let before = sight c.self.inside.reader.place in
     let after = sight c.look_informed-all.new.reader.place in
     let all = c.look_informed-all.result.0 in
-    let s = ok_of c.look_informed-all.result.1 c.in_ok-sighting.sighting _ c.in_ok-sighting.was
+    let s = if_of c.look_informed-all.result.1 c.in_ok-sighting.sighting _ c.in_ok-sighting.was
     c.look_informed-all.ensures.ok in
     let late = ok_of c.look_informed-all.result.1 c.in_ok-sighting.sighting _ c.in_ok-sighting.was
     c.look_informed-all.ensures.late in
-    let noted = if_of c.look_informed-all.result.1 c.in_ok-sighting.sighting _ c.in_ok-sighting.was
-    c.look_informed-all.ensures.seen in
-    let more = subst (λ token. SeesMore before after token all) c.again-known.ensures s.0 in
+    let more = subst (λ token. SeesMore before after token all) c.again-known.ensures s.sees in
     subst (λ view. view.closed ≡ true → editions_of c.in_ok-sighting.sighting.seen.log ≡ view.told)
     c.self.view_is
     (last before after c.self.inside.seen c.self.inside.count c.self.inside.knowledge all
-    c.in_ok-sighting.sighting.seen c.in_ok-sighting.sighting.count c.self.invariant more noted
+    c.in_ok-sighting.sighting.seen c.in_ok-sighting.sighting.count c.self.invariant more s.seen
     late)
 
 pub returns-clause-only_sees : goal.returns-clause-only_sees
@@ -99,13 +91,11 @@ returns-clause-only_sees g c =
     let before = sight c.self.inside.reader.place in
     let after = sight c.look_informed-all.new.reader.place in
     let all = c.look_informed-all.result.0 in
-    let s = ok_of c.look_informed-all.result.1 c.in_ok-sighting.sighting _ c.in_ok-sighting.was
+    let s = if_of c.look_informed-all.result.1 c.in_ok-sighting.sighting _ c.in_ok-sighting.was
     c.look_informed-all.ensures.ok in
-    let noted = if_of c.look_informed-all.result.1 c.in_ok-sighting.sighting _ c.in_ok-sighting.was
-    c.look_informed-all.ensures.seen in
-    let more = subst (λ token. SeesMore before after token all) c.again-known.ensures s.0 in
+    let more = subst (λ token. SeesMore before after token all) c.again-known.ensures s.sees in
     subst (λ view. OnlySees view (view_by after c.in_ok-sighting.sighting.seen
     (record c.self.inside.knowledge { all = all }))) c.self.view_is
     (only_sees before after c.self.inside.seen c.self.inside.count c.self.inside.knowledge all
-    c.in_ok-sighting.sighting.seen c.in_ok-sighting.sighting.count c.self.invariant more noted
+    c.in_ok-sighting.sighting.seen c.in_ok-sighting.sighting.count c.self.invariant more s.seen
     (invariant_of-self-2 g c))
