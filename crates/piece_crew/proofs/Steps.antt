@@ -7,6 +7,7 @@ use Rattle.atomic_table.specs.Table.{State, Act, Allows, Splits, Joins, Valid, o
 use Rattle.atomic_table.proofs.Lists.{at_set, at_snoc, set_again}
 use Rattle.piece_crew.specs.declared.rule.View.{View}
 use Rattle.piece_crew.specs.declared.rule.Terms.{Terms}
+use Rattle.piece_crew.specs.declared.rule.TheConstants.{MAX_TOTAL, MAX_WORKERS}
 use Rattle.piece_crew.specs.Claims.{once_below, times}
 use Rattle.piece_crew.specs.Rule.{Keeps, Fits, Draws, Reads, drew, joined, left, missed, opened, right, spent, total_of}
 use Rattle.piece_crew.proofs.Counting.{total_set, total_same, total_at, total_le, total_push, total_only, times-append, below-more, below-past, all_below}
@@ -45,7 +46,7 @@ opened_fits terms zero v at = subst (Fits terms) (some-injective (opened terms) 
 opened_fits terms (suc seat) v at = absurd (some-ne-none v (sym at))
 
 -- the claim word at the start
-pub opens : (terms : Terms) → terms.total < 4294967296 → terms.seats ≤ 64 → Keeps terms (opening (0 ∷ []) [] (opened terms))
+pub opens : (terms : Terms) → terms.total ≤ MAX_TOTAL → terms.seats ≤ MAX_WORKERS → Keeps terms (opening (0 ∷ []) [] (opened terms))
 opens terms total seats = record {
   small = (total, seats);
   word = (0, refl, omega arith, λ x. sym (below-past x (min 0 terms.total) (omega arith)));
@@ -57,7 +58,7 @@ abbrev Drawn : Terms → ℕ → ℕ → View → List (ℕ × Unit {0}) → ℕ
 Drawn terms slots id v c n homes views = (w : View) × (a : Act (Unit {0})) × Valid homes c a × Keeps terms (stepped (table n homes views) 0 ((n + 1) % 18446744073709551616) id c w a) × Draws (step slots 0 1 0 none) (v, c) n (w, carried_after c a)
 
 draws_at : (terms : Terms) (slots id : ℕ) (v : View) (c : List (ℕ × Unit {0})) (n : ℕ) (homes : List (Option (Unit {0}))) (views : List View) → length v.past < v.seats
-    → get_elem? views id ≡ some v → (terms.total < 4294967296) × (terms.seats ≤ 64)
+    → get_elem? views id ≡ some v → (terms.total ≤ MAX_TOTAL) × (terms.seats ≤ MAX_WORKERS)
     → n ≡ min n terms.total + total_of (λ v. length v.past) views
     → ((x : ℕ) → total_of (λ v. times x v.claimed) views ≡ once_below x (min n terms.total))
     → total_of (λ v. v.seats) views ≡ terms.seats
@@ -119,7 +120,7 @@ abbrev Read : Terms → ℕ → ℕ → View → List (ℕ × Unit {0}) → ℕ 
 Read terms slots id v c n homes views = (w : View) × (a : Act (Unit {0})) × Valid homes c a × Keeps terms (stepped (table n homes views) 0 n id c w a) × Reads (step slots 0 0 0 none) (v, c) n (w, carried_after c a)
 
 reads_at : (terms : Terms) (slots id : ℕ) (v : View) (c : List (ℕ × Unit {0})) (n : ℕ) (homes : List (Option (Unit {0}))) (views : List View)
-    → get_elem? views id ≡ some v → (terms.total < 4294967296) × (terms.seats ≤ 64)
+    → get_elem? views id ≡ some v → (terms.total ≤ MAX_TOTAL) × (terms.seats ≤ MAX_WORKERS)
     → n ≡ min n terms.total + total_of (λ v. length v.past) views
     → ((x : ℕ) → total_of (λ v. times x v.claimed) views ≡ once_below x (min n terms.total))
     → total_of (λ v. v.seats) views ≡ terms.seats

@@ -6,8 +6,8 @@ use Rattle.piece_crew.specs.declared.order.Bundle.{Bundle}
 use Rattle.piece_crew.specs.declared.order.Piece.{Piece}
 
 -- A worker had its None at a seat of the word, and has an output of each job that it claimed.
-pub record IsWorkedOff {O : Type 0} (gives : ℕ → O → Type 0) (word : Word)
-    (bundle : Bundle O) : Type 0 where
+pub record IsWorkedOff {O : Type 0} (gives : ℕ → O → Type 0) (word : Word) (bundle : Bundle O) :
+    Type 0 where
   pub at_word : bundle.seat.word ≡ word
   pub ended : HasEnded bundle.seat
   pub numbers : bundle.seat.claimed ≡ map (λ piece. piece.number) bundle.pieces.items

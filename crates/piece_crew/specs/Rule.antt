@@ -8,6 +8,7 @@ use Rattle.atomic_table.specs.Seated.{TableId}
 use Rattle.piece_crew.specs.Claims.{IsEachBelow, Seat, once_below, times}
 use Rattle.piece_crew.specs.declared.rule.View.{View}
 use Rattle.piece_crew.specs.declared.rule.Terms.{Terms}
+use Rattle.piece_crew.specs.declared.rule.TheConstants.{MAX_TOTAL, MAX_WORKERS}
 
 -- f of each view, added up
 abbrev pub total_of : (View → ℕ) → List View → ℕ
@@ -25,7 +26,7 @@ pub record Fits (terms : Terms) (v : View) : Type 0 where
 -- the word is beyond these is the Nones of the views; and the views stand for the seats that were
 -- made.
 pub record Keeps (terms : Terms) (s : State (Unit {0}) View) : Type 0 where
-  pub small : (terms.total < 4294967296) × (terms.seats ≤ 64)
+  pub small : (terms.total ≤ MAX_TOTAL) × (terms.seats ≤ MAX_WORKERS)
   pub word : (w : ℕ) × (s.words ≡ w ∷ [])
       × (w ≡ min w terms.total + total_of (λ v. length v.past) s.views)
       × ((x : ℕ) → total_of (λ v. times x v.claimed) s.views ≡ once_below x (min w terms.total))
@@ -75,7 +76,8 @@ pub record Reads (st : Step (Unit {0})) (me : Me (Unit {0}) View) (n : ℕ)
   pub same : me' ≡ me
   pub claimed : 0 < me.0.seats → me.0.seats ≡ me.0.made
       → IsEachBelow (min n me.0.total) me.0.claimed
-  pub nones : 0 < me.0.seats → me.0.seats ≡ me.0.made → n ≡ min n me.0.total + length me.0.past
+  pub nones : 0 < me.0.seats → me.0.seats ≡ me.0.made
+      → n ≡ min n me.0.total + length me.0.past
 
 -- a view without one of its seats, and the view of that seat
 abbrev pub left : View → View

@@ -1,8 +1,9 @@
 //! Numbers that are claimed on one word, each once.
 
-ghost use Rattle.std.specs.Prelude.{◌≡◌, ℕ, ◌+◌, ◌<◌, ◌≤◌, ◌^◌, [], ◌∷◌, ◌++◌, length, All, min, IfOk, IfSome, IfNone};
+ghost use Rattle.std.specs.Prelude.{◌≡◌, ℕ, ◌+◌, ◌<◌, ◌≤◌, [], ◌∷◌, ◌++◌, length, All, min, IfOk, IfSome, IfNone};
 ghost use Rattle.piece_crew.specs.Claims.{AreAllSeats, AreMade, FoundPast, HasEnded, IsEachBelow, IsOpen, claims_of, with_claim};
 ghost use Rattle.piece_crew.specs.Rule.{seat_of};
+ghost use Rattle.piece_crew.specs.declared.rule.TheConstants.{MAX_TOTAL, MAX_WORKERS};
 
 use crate::group::SeatGroup;
 use plain_data::{Mem, Seq};
@@ -63,9 +64,9 @@ impl Claims {
     ///
     /// `NoMemory` where an allocation is refused.
     pub fn make(alloc: Global, total: u64, seats: u32) -> Mem<Seq<ClaimSeat>>
-        requires total { total < 2 ^ 32 }
+        requires total { total ≤ MAX_TOTAL }
         requires some { 1 ≤ seats }
-        requires few { seats ≤ 64 }
+        requires few { seats ≤ MAX_WORKERS }
         ensures { IfOk result (AreMade total seats) }
     {
         let mut rest = SeatGroup::new(alloc, total, u64::from(seats))?;

@@ -1,9 +1,10 @@
 //! Workers, each of which claims jobs and does them until none is left.
 
-ghost use Rattle.std.specs.Prelude.{◌≡◌, ℕ, ◌^◌, ◌<◌, ◌≤◌, length, All, IfOk, slice_index_or};
+ghost use Rattle.std.specs.Prelude.{◌≡◌, ℕ, ◌<◌, ◌≤◌, length, All, IfOk, slice_index_or};
 ghost use Rattle.piece_crew.specs.Claims.{fresh};
 ghost use Rattle.piece_crew.specs.Jobs.{AreInOrder};
 ghost use Rattle.piece_crew.specs.Bundles.{AreWorkedOff, IsWorkedOff};
+ghost use Rattle.piece_crew.specs.declared.rule.TheConstants.{MAX_TOTAL, MAX_WORKERS};
 
 use crate::claims::{ClaimSeat, Claims};
 use crate::job::Job;
@@ -17,7 +18,7 @@ use std::thread::Threads;
 fn work_off<J: Job>(alloc: Global, all: &J, mut seat: ClaimSeat) -> Mem<Bundle<J::Out>>
     requires fresh { seat ≡ fresh seat.word }
     requires total { seat.word.total ≡ J.jobs all.now }
-    requires few { J.jobs all.now < 2 ^ 32 }
+    requires few { J.jobs all.now ≤ MAX_TOTAL }
     ensures { IfOk result (λ bundle. IsWorkedOff (J.gives all.now) seat.word bundle) }
 {
     let mut pieces = Vec::new(alloc);
@@ -40,7 +41,7 @@ where
     J::Out: Send,
     requires fresh { All (λ seat. seat ≡ fresh seat.word) seats.items }
     requires total { All (λ seat. seat.word.total ≡ J.jobs all.now) seats.items }
-    requires few { J.jobs all.now < 2 ^ 32 }
+    requires few { J.jobs all.now ≤ MAX_TOTAL }
     ensures len { IfOk result (λ results. length results.items ≡ length seats.items) }
     ensures each { IfOk result (λ results. (k : ℕ) (r : _) (s : _) → k < length seats.items
         → IfOk (slice_index_or results.items k r)
@@ -59,7 +60,7 @@ fn work_beside<J: Job + Sync, R: Threads + Sync>(
 where
     J::Out: Send,
     requires some { 1 ≤ workers }
-    requires few { workers ≤ 64 }
+    requires few { workers ≤ MAX_WORKERS }
     ensures { IfOk result
         (λ bundles. AreWorkedOff (J.gives all.now) (J.jobs all.now) bundles.items) }
 {
@@ -87,7 +88,7 @@ pub fn run_pieces<J: Job + Sync, R: Threads + Sync>(
 where
     J::Out: Send,
     requires some { 1 ≤ workers }
-    requires few { workers ≤ 64 }
+    requires few { workers ≤ MAX_WORKERS }
     ensures count { IfOk result (λ outputs. length outputs ≡ J.jobs all.now) }
     ensures order { IfOk result (λ outputs. AreInOrder (J.gives all.now) outputs) }
 {

@@ -1,9 +1,10 @@
 //! Seats that one view stands for, and their steps at the claim word.
 
-ghost use Rattle.std.specs.Prelude.{◌≡◌, ℕ, ◌+◌, ◌<◌, ◌≤◌, ◌^◌, [], ◌∷◌, ◌++◌, length, All, min, IfOk, IfSome, IfNone, OnErr, OnOk};
+ghost use Rattle.std.specs.Prelude.{◌≡◌, ℕ, ◌+◌, ◌<◌, ◌≤◌, [], ◌∷◌, ◌++◌, length, All, min, IfOk, IfSome, IfNone, OnErr, OnOk};
 ghost use Rattle.std.specs.Arc.{arc_value};
 ghost use Rattle.piece_crew.specs.Claims.{IsEachBelow};
 ghost use Rattle.piece_crew.specs.Rule.{drew, joined, left, missed, opened, right};
+ghost use Rattle.piece_crew.specs.declared.rule.TheConstants.{MAX_TOTAL, MAX_WORKERS};
 
 use crate::rule::{ClaimRule, Drawing, Parting, Reading, Terms, View};
 use atomic_table::{Seat, Table};
@@ -26,8 +27,8 @@ pub(crate) struct SeatGroup {
 impl SeatGroup {
     // A new claim word, and all its seats.
     pub(crate) fn new(alloc: Global, total: u64, seats: u64) -> Mem<SeatGroup>
-        requires total { total < 2 ^ 32 }
-        requires seats { seats ≤ 64 }
+        requires total { total ≤ MAX_TOTAL }
+        requires seats { seats ≤ MAX_WORKERS }
         ensures { IfOk result
             (λ group. group.seat.me.0 ≡ opened (record { total = total; seats = seats })) }
     {

@@ -16,3 +16,4 @@ pub use claims::{ClaimSeat, Claims};
 pub use crew::run_pieces;
 pub use job::Job;
 pub use laws::outputs_do_not_depend_on_the_workers;
+pub use rule::{MAX_TOTAL, MAX_WORKERS};

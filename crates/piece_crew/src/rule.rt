@@ -3,6 +3,12 @@
 use atomic_table::{Join, Play, Split, TableRule};
 use std::collections::LinkedList;
 
+/// The most numbers that there are to claim at one word: as many as a `u32` counts.
+pub const MAX_TOTAL: u64 = 4_294_967_295;
+
+/// The most workers, and the most seats at one word.
+pub const MAX_WORKERS: u32 = 64;
+
 /// What a claim word is made with: how many numbers there are, and how many seats.
 #[derive(Drop)]
 pub struct Terms {

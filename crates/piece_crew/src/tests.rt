@@ -61,8 +61,9 @@ impl Job for Triples {
 
 #[test]
 fn outputs_stand_in_the_order_of_the_jobs(rt: HostRuntime) -> Result<(), Fail> {
-    for (count, workers) in [(0, 1), (0, 64), (1, 1), (1, 4), (10, 64), (100_000, 4)] {
-        assert!(rt; 1 <= workers && workers <= 64);
+    let most = MAX_WORKERS;
+    for (count, workers) in [(0, 1), (0, most), (1, 1), (1, 4), (10, most), (100_000, 4)] {
+        assert!(rt; 1 <= workers && workers <= MAX_WORKERS);
         let outputs = run_pieces(&rt, rt.alloc(), &Triples { count }, workers)?;
         assert_eq!(rt; outputs.len(), count as usize);
         for (number, output) in (0..count).zip(outputs.as_slice()) {
@@ -150,8 +151,8 @@ impl Job for Starved {
 
 #[test]
 fn a_job_without_memory_ends_the_call(rt: HostRuntime) {
-    for (number, workers) in [(0, 1), (99, 2), (50, 64)] {
-        assert!(rt; 1 <= workers && workers <= 64);
+    for (number, workers) in [(0, 1), (99, 2), (50, MAX_WORKERS)] {
+        assert!(rt; 1 <= workers && workers <= MAX_WORKERS);
         let outputs = run_pieces(&rt, rt.alloc(), &Starved { number }, workers);
         assert!(rt; matches!(outputs, Err(NoMemory)));
     }

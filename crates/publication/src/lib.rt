@@ -15,7 +15,7 @@ mod reader;
 mod rule;
 mod slot;
 
-pub use opening::open_editions;
+pub use opening::{MAX_READERS, open_editions};
 pub use publisher::Publisher;
 pub use reader::{EditionReader, Entered, Told};
 

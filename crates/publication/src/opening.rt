@@ -7,6 +7,7 @@ ghost use Rattle.publication.specs.View.{newcomer};
 ghost use Rattle.publication.specs.Chronicle.{IsOpen};
 ghost use Rattle.publication.specs.Slots.{IsSound, shown};
 ghost use Rattle.publication.specs.Readers.{IsOpening, IsTold, opening_by};
+ghost use Rattle.publication.specs.declared.opening.TheConstants.{MAX_READERS};
 
 use crate::chronicle::{Token, open_log};
 use crate::knowledge::Knowledge;
@@ -18,6 +19,9 @@ use left_right::writer::Writer;
 use plain_data::{Mem, NoMemory};
 use std::alloc::Global;
 use std::sync::{Arc, Wait};
+
+/// The most readers of one opening.
+pub const MAX_READERS: u32 = 64;
 
 // A slot with the same edition.
 fn copy_of<E: Drop>(slot: &Slot<E>) -> Mem<Slot<E>>
@@ -145,7 +149,7 @@ pub fn open_editions<E: Drop, R: Wait>(
     readers: u32,
 ) -> Mem<(Publisher<E>, Vec<EditionReader<E>>)>
     requires some { 1 ≤ readers }
-    requires few { readers ≤ 64 }
+    requires few { readers ≤ MAX_READERS }
     ensures history { IfOk result (λ opened. opened.0.editions ≡ arc_value first ∷ []) }
     ensures first { IfOk result (λ opened. opened.0.opening.editions ≡ arc_value first ∷ []) }
     ensures unclosed { IfOk result (λ opened. opened.0.closed ≡ false) }

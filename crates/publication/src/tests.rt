@@ -118,14 +118,18 @@ fn the_last_that_is_told_stays_the_newest(rt: HostRuntime) {
 fn editions_outlive_their_publisher_with_as_many_readers_as_there_can_be(rt: HostRuntime) {
     let alloc = rt.alloc();
     let first = Arc::new(alloc, 7u32).expect(&rt, "edition 7");
-    let (publisher, mut readers) = open_editions(&rt, alloc, first, 64).expect(&rt, "open");
+    let (publisher, mut readers) = open_editions(&rt, alloc, first, MAX_READERS).expect(
+        &rt, "open",
+    );
     let mut editions = Vec::new(alloc);
     for reader in readers.iter_mut() {
         let entered = reader.enter().expect(&rt, "enters");
         editions.push(entered.edition).expect(&rt, "keeps it");
     }
     publisher.close(&rt);
-    assert!(rt; editions.len() == 64 && editions.iter().all(|edition| **edition == 7));
+    assert!(rt;
+        editions.len() == MAX_READERS as usize && editions.iter().all(|edition| **edition == 7)
+    );
     for reader in readers.iter_mut() {
         assert!(rt; matches!(reader.enter(), Err(NoMemory)));
     }
