@@ -15,8 +15,8 @@ position_of-position-requires c =
     c.as_slice.ensures ∙ ap (λ p. p.scanned.lines) outcome ∙ c.requires.lines in
     rw starts (AreLineStarts-line_starts (bytes_in c.requires.file.entry))
 
-pub returns-in-Accepted : goal.returns-in-Accepted
-returns-in-Accepted c =
+pub returns : goal.returns
+returns c =
     let file = c.requires.file in
     let hit = c.args.hit.now in
     let same : c.piece-piece.result.now ≡ file = cc in
