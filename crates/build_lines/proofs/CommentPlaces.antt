@@ -16,7 +16,8 @@ use Rattle.build_lines.specs.declared.admission.Admission.{Admission}
 use Rattle.build_lines.specs.Admissions.{IsBadLine, IsJudgedBy}
 use Rattle.build_lines.specs.Expressions.{IsMalformed}
 use Rattle.build_lines.specs.BuildLines.{expression_text}
-use Rattle.build_lines.specs.BuildLines.{BeginsBuild, IsInside, begins_build, build_lines}
+use Rattle.build_lines.specs.BuildLines.{begins_build, build_lines}
+use Rattle.build_lines.specs.Judging.{BeginsBuild, IsInside}
 use Rattle.build_lines.specs.BuildLines.{first_token, is_alone, is_build_line, stands_before}
 use Rattle.build_lines.specs.BuildLines.{text_of_comment}
 

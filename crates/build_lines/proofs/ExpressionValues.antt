@@ -6,7 +6,8 @@ use Rattle.std.specs.Str.{chars}
 use Rattle.std.proofs.lemmas.Str.{chars-encodes, encodes-chars, scalars-chars}
 use Rattle.build_lines.specs.declared.symbol.Symbol.{Symbol as Valued}
 use Rattle.build_lines.specs.declared.symbol.Place.TheVariants.{Between}
-use Rattle.build_lines.specs.Expressions.{Expression, Symbol, IsMalformed, IsValue}
+use Rattle.build_lines.specs.Expressions.{Expression, Symbol, IsMalformed}
+use Rattle.build_lines.specs.Judging.{IsValue}
 use Rattle.build_lines.specs.Expressions.{Spells, value}
 use Rattle.build_lines.specs.Reading.{cut, evaluate, evaluating, no_values}
 use Rattle.build_lines.proofs.CutSymbols.{cut-symbols}

@@ -1,8 +1,8 @@
 -- Cited by public clauses. Where build lines stand in a source (The go command, "Build
 -- constraints").
-use Rattle.std.specs.Prelude.{ℕ, ◌≤◌, Bool, true, false, ◌&&◌, not, List, [], ◌∷◌, Option, Some}
+use Rattle.std.specs.Prelude.{ℕ, Bool, true, false, ◌&&◌, not, List, [], ◌∷◌, Option, Some}
 use Rattle.std.specs.Prelude.{None, take, drop, if◌then◌else◌, ◌==◌, nat_eq, nat_lt, slice_range}
-use Rattle.std.specs.Prelude.{filter, codes, IsTrue}
+use Rattle.std.specs.Prelude.{filter, codes}
 use Rattle.std.specs.List.{after_last, find, list_all, starts_with}
 use Rattle.go_ast.specs.declared.token.Comment.{Comment}
 use Rattle.go_ast.specs.declared.token.Token.{Token}
@@ -25,10 +25,6 @@ abbrev pub stands_before : Option Token → Comment → Bool
 stands_before None comment = true
 stands_before (Some token) comment = nat_lt comment.span.start token.span.start
 
--- the comment lies within so many bytes
-abbrev pub IsInside : ℕ → Comment → Type 0
-IsInside size comment = (comment.span.start ≤ comment.span.end) × (comment.span.end ≤ size)
-
 abbrev pub text_of_comment : List ℕ → Comment → List ℕ
 text_of_comment bytes comment = slice_range bytes comment.span.start comment.span.end
 
@@ -49,10 +45,6 @@ ends_word (b ∷ bytes) = is_blank b
 -- a text that begins "//go:build", and ends there or goes on with a blank
 unfoldable pub begins_build : List ℕ → Bool
 begins_build text = starts_with nat_eq text (codes "//go:build") && ends_word (drop 10 text)
-
--- the text of a comment begins so
-abbrev pub BeginsBuild : List ℕ → Comment → Type 0
-BeginsBuild bytes comment = IsTrue (begins_build (text_of_comment bytes comment))
 
 -- a build line, where the first token that is no semicolon is this one
 abbrev pub is_build_line : List ℕ → Option Token → Comment → Bool

@@ -130,9 +130,3 @@ Spells bytes expression =
 -- the bytes spell no expression
 abbrev pub IsMalformed : List ℕ → Type 0
 IsMalformed bytes = (expression : Expression) → Spells bytes expression → ⊥
-
--- the value of the expression that the bytes spell, or nothing where they spell none
-abbrev pub IsValue : (List ℕ → Bool) → List ℕ → Option Bool → Type 0
-IsValue holds bytes None = IsMalformed bytes
-IsValue holds bytes (Some truth) =
-    (expression : Expression) × Spells bytes expression × (truth ≡ value holds expression)

@@ -7,4 +7,5 @@ pub mod Tags
 -- Cited by private clauses and proofs.
 pub mod Cuttings
 pub mod Evaluations
+pub mod Judging
 pub mod Reading

@@ -4,7 +4,8 @@ ghost use Rattle.std.specs.Prelude.{◌≡◌, ◌≤◌, All, IfOk, IsTrue, len
 ghost use Rattle.go_ast.specs.declared.token.TheConstants.{MAX_SOURCE_BYTES};
 ghost use Rattle.go_ast.specs.Characters.{is_white_space};
 ghost use Rattle.go_ast.specs.Position.{line_of};
-ghost use Rattle.build_lines.specs.BuildLines.{BeginsBuild, IsInside, begins_build, build_lines};
+ghost use Rattle.build_lines.specs.BuildLines.{begins_build, build_lines};
+ghost use Rattle.build_lines.specs.Judging.{BeginsBuild, IsInside};
 ghost use Rattle.build_lines.specs.BuildLines.{ends_word, expression_text, first_token, is_alone};
 ghost use Rattle.build_lines.specs.BuildLines.{is_build_line, is_semicolon, stands_before};
 ghost use Rattle.build_lines.specs.BuildLines.{text_of_comment, without_mark};

@@ -1,7 +1,7 @@
 //! The value of a build line's expression.
 
 ghost use Rattle.std.specs.Prelude.{◌≡◌, IfOk};
-ghost use Rattle.build_lines.specs.Expressions.{IsValue};
+ghost use Rattle.build_lines.specs.Judging.{IsValue};
 ghost use Rattle.build_lines.specs.Tags.{holds};
 
 use crate::cutting::symbols_of;

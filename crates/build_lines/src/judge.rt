@@ -4,7 +4,7 @@ ghost use Rattle.std.specs.Prelude.{◌≡◌, ◌≤◌, All, IfOk, length, tru
 ghost use Rattle.go_ast.specs.declared.token.TheConstants.{MAX_SOURCE_BYTES};
 ghost use Rattle.go_ast.specs.Reading.{Reads};
 ghost use Rattle.build_lines.specs.Admissions.{IsAdmission, IsBadLine, IsJudgedBy, judged};
-ghost use Rattle.build_lines.specs.BuildLines.{BeginsBuild, IsInside};
+ghost use Rattle.build_lines.specs.Judging.{BeginsBuild, IsInside};
 
 use crate::admission::{Admission, Why};
 use crate::build_line::{build_lines, expression_text, line_of};
@@ -26,7 +26,7 @@ fn judged(by_name: bool, by_line: bool) -> Admission
     }
 }
 
-/// That a build line is malformed or a second one.
+/// What is said of a file for a build line that is malformed, or that is a second one.
 fn bad_line(source: &[u8], line: &Comment) -> Admission
     requires small { length source.now ≤ MAX_SOURCE_BYTES }
     requires inside { IsInside (length source.now) line.now }

@@ -1,4 +1,4 @@
-//! Files of which the rules of build constraints tell what is said.
+//! What is said of files by their names and build lines.
 
 use crate::Admission::{Admitted, BadBuildLine, Ignored};
 use crate::Why::{ByLine, ByName};

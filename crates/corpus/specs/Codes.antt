@@ -11,7 +11,8 @@ use Rattle.go_ast.specs.declared.config.Config.{Config}
 use Rattle.ident_index.specs.Postings.{Posting}
 use Rattle.package_group.specs.declared.facts.Package.{Package}
 use Rattle.tree_io.specs.Sources.{Sources}
-use Rattle.corpus_piece.specs.Pieces.{JudgedFile, judged_code}
+use Rattle.corpus_piece.specs.Codes.{judged_code}
+use Rattle.corpus_piece.specs.Pieces.{JudgedFile}
 use Rattle.corpus.specs.declared.faults.FileFault.{FileFault}
 use Rattle.corpus.specs.Corpora.{Edition, Tables, edition, tables}
 use Rattle.corpus.specs.Snapshots.{SourceSet, source_set}

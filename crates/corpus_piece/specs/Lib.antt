@@ -3,4 +3,5 @@ pub mod Outcomes
 pub mod Pieces
 -- Cited by private clauses and proofs.
 pub mod Accepted
+pub mod Codes
 pub mod Refusals

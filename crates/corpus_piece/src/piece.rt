@@ -25,7 +25,8 @@ pub struct Piece {
 }
 
 impl Model for Piece {
-    ghost use Rattle.corpus_piece.specs.Pieces.{IsJudged, JudgedFile, judged_code};
+    ghost use Rattle.corpus_piece.specs.Codes.{judged_code};
+    ghost use Rattle.corpus_piece.specs.Pieces.{IsJudged, JudgedFile};
     ghost use Rattle.corpus_piece.specs.Pieces.{judged_file};
     ghost use Rattle.std.specs.Arc.{arc_value};
 

@@ -2,17 +2,13 @@
 use Rattle.std.specs.Prelude.{◌≡◌, ℕ, ◌≤◌, ◌⊎◌, Bool, true, false, List, All, slice_range}
 use Rattle.go_ast.specs.declared.token.Token.{Token}
 use Rattle.go_ast.specs.declared.token.TokenKind.{TokenKind}
-use Rattle.go_ast.specs.declared.token.TokenKind.TheVariants.{Ident, Keyword, AutoSemi}
+use Rattle.go_ast.specs.declared.token.TokenKind.TheVariants.{Ident, AutoSemi}
 use Rattle.go_ast.specs.Lexical.{Spelling, print_spelling, IsSpelling}
 use Rattle.go_ast.specs.Reading.{kind_of}
 
 abbrev pub is_ident : TokenKind → Bool
 is_ident Ident = true
 is_ident _ = false
-
-abbrev pub is_keyword : TokenKind → Bool
-is_keyword Keyword = true
-is_keyword _ = false
 
 -- the text of a token in its source
 abbrev pub text_of : List ℕ → Token → List ℕ

@@ -4,10 +4,8 @@ use Rattle.std.specs.Prelude.{All, IsSome}
 use Rattle.std.specs.Option.{ForSome}
 use Rattle.std.proofs.lemmas.List.Elements.{All-head, All-tail}
 use Rattle.std.proofs.lemmas.List.Sums.{sum_by-append}
-use Rattle.corpus.specs.Snapshots.{IsPassed, IsWithinLimits, bytes_of, size_of}
+use Rattle.corpus.specs.Snapshots.{bytes_of, size_of}
 use Rattle.corpus.specs.declared.snapshot.TheConstants.{MAX_SCAN_BYTES}
-use Rattle.corpus.specs.declared.snapshot.TooLarge.{TooLarge}
-use Rattle.corpus.specs.declared.snapshot.TooLarge.TheVariants as limits
 use Rattle.tree_io.specs.declared.tree.Entry.{Entry}
 use Rattle.tree_io.specs.declared.tree.Entry.TheVariants.{Bytes, Large, Unread}
 use Rattle.tree_io.specs.declared.tree.TheConstants.{MAX_FILE_BYTES}
@@ -55,9 +53,3 @@ pass_here scans paths before path rest sources entry a c bytes cut read within i
   bytes_is = is;
   passed = passed;
 }
-
--- sources within the limits pass none
-pub none_passed : (sources : Sources) (limit : TooLarge) → IsWithinLimits sources → IsPassed sources limit → ⊥
-none_passed sources (limits.TooManyFiles files) within passed = omega (arith, within.files, passed.0, passed.1)
-none_passed sources (limits.TooManyBytes bytes) within passed = omega (arith, within.bytes, passed.1, passed.2)
-none_passed sources limits.NoMemory within passed = passed

@@ -10,5 +10,6 @@ pub mod Serving
 pub mod Status
 pub mod Words
 -- Cited by private clauses and proofs.
+pub mod Asked
 pub mod HitLines
 pub mod Steps

@@ -1,8 +1,6 @@
 -- Cited by public clauses. The words of the command line. The project's own.
 use Rattle.std.specs.Prelude.{ℕ, ◌&&◌, List, [], ◌∷◌, Option, Some, None, codes, drop, slice_index_or, ⊤, if◌then◌else◌}
 use Rattle.std.specs.Str.{bytes_eq}
-use Rattle.godoc.specs.declared.words.Command as commands
-use Rattle.godoc.specs.declared.words.Command.TheVariants as variants
 use Rattle.go_chars.specs.Identifiers.{is_name}
 
 -- the root folder of a command line, which begins with the program's name: the word after that, and
@@ -29,11 +27,6 @@ command_of (word ∷ []) = if bytes_eq word (codes "answer") then Some answer el
 command_of (word ∷ name ∷ []) =
     if bytes_eq word (codes "find") && is_name name then Some (find name) else None
 command_of (word ∷ name ∷ other ∷ words) = None
-
--- a command of the program, by what it asks for
-abbrev pub asked : commands.Command → Command
-asked (variants.Find name) = find name.now
-asked variants.Answer = answer
 
 -- the words ask for a command that scans the tree
 abbrev pub AskForScan : Option Command → Type 0

@@ -1,7 +1,8 @@
 //! The words of the command line.
 
 ghost use Rattle.std.specs.Prelude.{◌≡◌, map, option_map, string_bytes};
-ghost use Rattle.godoc.specs.Words.{asked, command_of};
+ghost use Rattle.godoc.specs.Asked.{asked};
+ghost use Rattle.godoc.specs.Words.{command_of};
 
 use go_chars::is_name;
 

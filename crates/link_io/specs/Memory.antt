@@ -7,7 +7,7 @@ use Rattle.plain_data.specs.Counts.{Numbered, NextFails, called, one_more}
 pub record SourceState : Type 0 where
   -- the bytes that remain
   pub remaining : List ℕ
-  -- the offsets in them that no read passes, in the order in which they were given
+  -- the offsets in them that no read passes, each at least 1, in the order in which they were given
   pub cuts : List ℕ
   -- its reads, and how many of them failed
   pub calls : Numbered

@@ -287,7 +287,7 @@ fn count_to_stop(position: usize, cuts: &[u64], end: usize, room: usize) -> usiz
     room.min(reach(position, cuts, end - position))
 }
 
-// How many of the bytes from a place on a read can move at most.
+// How many bytes a read from the position on can move at most: those before the first cut.
 fn reach(position: usize, cuts: &[u64], remaining: usize) -> usize
     ensures { result ≡ fold min remaining (cuts_behind position cuts.now) }
 {

@@ -80,9 +80,9 @@ impl Claims {
         Ok(Seq::from_vec(all))
     }
 
-    /// Joins all the seats of a claim word and gives how many numbers they claimed: the claims are
-    /// the numbers below that one, each once, and it is the total where each seat has had its
-    /// `None`. The call takes no memory.
+    /// Joins all the seats of a claim word, and gives how many numbers they claimed. Their claims
+    /// are the numbers below it, each once. It is the total where each seat has had its `None`.
+    /// The call takes no memory.
     pub fn close(seats: Seq<ClaimSeat>) -> u64
         requires { AreAllSeats seats }
         ensures claims { IsEachBelow result (claims_of seats) }

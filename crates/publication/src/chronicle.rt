@@ -107,8 +107,8 @@ pub(crate) fn make_place<E>(counter: &Counter<E>, known: &Token<E>, entries: u64
         &mut offer,
         &mut pen,
     );
-    // Never so: the publisher alone makes places. No rule on `logbook` can say so, since a step that
-    // makes a place asks for no pen.
+    // Never so: the publisher alone makes places. No rule on `logbook` can say so, since a step
+    // that makes a place asks for no pen.
     if found != places {
         return Err(NoMemory);
     }

@@ -156,8 +156,9 @@ by_rest (Some rest) = by_path (path_of rest) (query_of rest)
 
 -- a method other than GET and HEAD is judged before the target
 abbrev pub by_verb : Verb → List ℕ → Target
+by_verb verbs.Get target = by_rest (path_and_query target)
+by_verb verbs.Head target = by_rest (path_and_query target)
 by_verb verbs.Other target = targets.BadVerb
-by_verb _ target = by_rest (path_and_query target)
 
 -- what a request asks for
 abbrev pub target_of : Request → Target

@@ -69,6 +69,6 @@ pub record ServesLink {E : Type 0} (reply : Replier E)
   pub session : Session reply remaining remaining_after held held_after old new result
   pub read_faults : IsCaused reads reads_after (result ≡ ends.ReadFault)
   pub write_faults : IsCaused writes writes_after (result ≡ ends.WriteFault)
-  -- the reader has seen no less, and has no look more
+  -- the reader has seen no less, was told nothing more, and has no look more
   pub only_sees : OnlySees old new
   pub looks : new.looks ≡ old.looks

@@ -7,4 +7,5 @@ pub mod MemTree
 pub mod FsTree
 -- Cited by private clauses and proofs.
 pub mod Files
+pub mod Places
 pub mod Walks

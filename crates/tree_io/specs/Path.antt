@@ -1,6 +1,6 @@
 -- Cited by public clauses. Which paths belong to a tree of Go sources, and in what order they
 -- stand. The rule is the project's own.
-use Rattle.std.specs.Prelude.{◌≢◌, ℕ, ◌-◌, ◌<◌, ◌≤◌, ◌==◌, List, [], ◌∷◌, ◌++◌, length, take, map, All, IsTrue, codes, slice_index, nat_eq}
+use Rattle.std.specs.Prelude.{◌≢◌, ℕ, ◌-◌, ◌<◌, ◌≤◌, ◌==◌, List, length, take, map, All, IsTrue, codes, slice_index, nat_eq}
 use Rattle.std.specs.List.{slice_split, ends_with}
 use Rattle.std.specs.List.Sorted.{IsStrictlySortedBy}
 use Rattle.std.specs.Cmp.Lexicographic.{slice_cmp}
@@ -50,16 +50,6 @@ pub record MayLead (name : List ℕ) : Type 0 where
   pub plain : IsPlainSegment name
   pub source_folder : IsSourceFolder name
   pub printable : All IsPathByte name
-
--- the path of an entry of a folder; the root has the empty path
-abbrev pub joined : List ℕ → List ℕ → List ℕ
-joined [] name = name
-joined (b ∷ folder) name = (b ∷ folder) ++ slash ∷ name
-
--- the path of what stands at a path below a root; the empty path is that of the root itself
-abbrev pub full : List ℕ → List ℕ → List ℕ
-full root [] = root
-full root (b ∷ path) = root ++ slash ∷ b ∷ path
 
 -- a path of a Go file under the root
 pub record Belongs (path : List ℕ) : Type 0 where

@@ -44,4 +44,6 @@ unread_count sources = count_by (λ source. is_unread source.1) sources
 
 -- a path with its entry, after a scan of the contents: `Unread`, or what the contents have there
 abbrev pub IsFrom : Contents → List ℕ × Entry → Type 0
-IsFrom contents source = (source.1 ≡ Unread) ⊎ IsSomeAnd (bytes_at contents source.0) (λ bytes. source.1 ≡ entry_of bytes)
+IsFrom contents source =
+    (source.1 ≡ Unread)
+    ⊎ IsSomeAnd (bytes_at contents source.0) (λ bytes. source.1 ≡ entry_of bytes)

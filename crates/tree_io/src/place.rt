@@ -1,7 +1,7 @@
 //! Where a path below the root stands in the file system.
 
 ghost use Rattle.std.specs.Prelude.{◌≡◌, IfOk, string_bytes};
-ghost use Rattle.tree_io.specs.Path.{full, joined};
+ghost use Rattle.tree_io.specs.Places.{full, joined};
 
 use plain_data::Mem;
 use std::alloc::Global;

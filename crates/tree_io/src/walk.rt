@@ -4,7 +4,8 @@ ghost use Rattle.std.specs.Prelude.{◌≡◌, ◌≢◌, ◌+◌, ◌-◌, [], 
 ghost use Rattle.std.specs.Fs.{IsDir, dir_entry_name};
 ghost use Rattle.std.specs.declared.fs.attrs.FileType.{FileType};
 ghost use Rattle.plain_data.specs.Causes.{IsFailOf};
-ghost use Rattle.tree_io.specs.Path.{Belongs, IsRising, MayLead, joined};
+ghost use Rattle.tree_io.specs.Path.{Belongs, IsRising, MayLead};
+ghost use Rattle.tree_io.specs.Places.{joined};
 ghost use Rattle.tree_io.specs.Walks.{GainsFolder, GainsNothing, GainsPath, Meets};
 
 use crate::path::{belongs, has_path_bytes, is_source_folder};

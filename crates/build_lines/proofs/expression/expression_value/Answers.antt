@@ -2,7 +2,7 @@ use Rattle.std.proofs.Common.{false, [], sym, ◌∙◌, ap, subst}
 use Rattle.std.specs.Prelude.{option_and_then}
 use Rattle.std.specs.Str.{chars}
 use Rattle.build_lines.specs.declared.symbol.Place.TheVariants.{Between}
-use Rattle.build_lines.specs.Expressions.{IsValue}
+use Rattle.build_lines.specs.Judging.{IsValue}
 use Rattle.build_lines.specs.Reading.{cut, evaluate, evaluating, no_values}
 use Rattle.build_lines.specs.Tags.{holds}
 use Rattle.build_lines.proofs.ExpressionValues.{value_of_symbols}

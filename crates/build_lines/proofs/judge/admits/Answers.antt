@@ -1,5 +1,5 @@
 use Rattle.std.proofs.Common.{All, length, sym, ◌∙◌, subst}
-use Rattle.build_lines.specs.BuildLines.{BeginsBuild, IsInside}
+use Rattle.build_lines.specs.Judging.{BeginsBuild, IsInside}
 use Rattle.build_lines.proofs.CommentPlaces.{build_lines_begin, build_lines_inside, read_inside}
 use Rattle.build_lines.proofs.judge.admits.Goals as goal
 

@@ -1,5 +1,6 @@
 use Rattle.std.proofs.Common.{subst}
-use Rattle.build_lines.specs.Expressions.{IsMalformed, IsValue}
+use Rattle.build_lines.specs.Expressions.{IsMalformed}
+use Rattle.build_lines.specs.Judging.{IsValue}
 use Rattle.build_lines.specs.Tags.{holds}
 use Rattle.build_lines.proofs.CommentPlaces.{malformed_first}
 use Rattle.build_lines.proofs.judge.judge.Goals as goal
