@@ -6,7 +6,7 @@ use Rattle.std.specs.Str.{chars}
 use Rattle.std.proofs.lemmas.Str.{chars-encodes, encodes-chars, scalars-chars}
 use Rattle.build_lines.specs.declared.symbol.Symbol.{Symbol as Valued}
 use Rattle.build_lines.specs.declared.symbol.Place.TheVariants.{Between}
-use Rattle.build_lines.specs.Expressions.{Expression, Symbol, IsMalformed}
+use Rattle.build_lines.specs.Expressions.{Expression, Symbol}
 use Rattle.build_lines.specs.Judging.{IsValue}
 use Rattle.build_lines.specs.Expressions.{Spells, value}
 use Rattle.build_lines.specs.Reading.{cut, evaluate, evaluating, no_values}
@@ -62,9 +62,6 @@ value_found-spelled holds bytes utf8 =
       ),
       refl,
     )
-
-pub not_text : (bytes : List ℕ) → ¬ IsUtf8 bytes → IsMalformed bytes
-not_text bytes fails = λ e (text, scalars, split, spelled). fails (text, (scalars, sym split))
 
 -- the same where the symbols are told
 pub value_of_symbols : (holds : List ℕ → Bool) (bytes : List ℕ) (found : Option (List Valued))

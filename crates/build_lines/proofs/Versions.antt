@@ -1,6 +1,6 @@
 -- The value of digits, one digit after another.
 use Rattle.std.proofs.Common.{◌≡◌, ℕ, suc, ◌+◌, ◌*◌, ◌-◌, ◌<◌, ◌≤◌, Bool, true, false, ◌&&◌}
-use Rattle.std.proofs.Common.{List, [], ◌∷◌, length, drop, get_or, refl, sym, ◌∙◌, ap, arith}
+use Rattle.std.proofs.Common.{List, [], ◌∷◌, length, drop, get_or, refl, ◌∙◌, ap, arith}
 use Rattle.std.proofs.Common.{drop-cons}
 use Rattle.std.specs.Prelude.{nat_le}
 use Rattle.std.specs.List.{list_all}
@@ -25,15 +25,6 @@ split_at : (last value : ℕ) (xs : List ℕ) (i : ℕ) → i < length xs
     → rest_test last value (drop i xs) ≡ rest_test last value (get_or xs i 0 ∷ drop (suc i) xs)
 split_at last value xs i h = ap (rest_test last value) (drop-cons xs i 0 h)
 
--- a byte that is no digit
-pub test_fails : (last value : ℕ) (xs : List ℕ) (i : ℕ) → i < length xs
-    → is_ascii_digit (get_or xs i 0) ≡ false → rest_test last value (drop i xs) ≡ false
-test_fails last value xs i h no_digit =
-    split_at last value xs i h ∙ ap
-    (λ b. (b && list_all is_ascii_digit (drop (suc i) xs))
-    && nat_le (value_after 10 (value * 10 + digit_value (get_or xs i 0)) (drop (suc i) xs))
-    last) no_digit
-
 false_right : (b c : Bool) → c ≡ false → (b && c) ≡ false
 false_right true c fails = fails
 false_right false c fails = refl
@@ -54,17 +45,3 @@ test_passed last value xs i next h digit is over =
     omega arith in
     split_at last value xs i h ∙ false_right _ _
     (lt-leb (value_after 10 (value * 10 + digit_value d) (drop (suc i) xs)) last great)
-
--- the digits that are left decide, after one more
-pub test_goes_on : (last value : ℕ) (xs : List ℕ) (i next : ℕ) → i < length xs
-    → is_ascii_digit (get_or xs i 0) ≡ true → next ≡ value * 10 + (get_or xs i 0 - 48)
-    → rest_test last next (drop (suc i) xs) ≡ rest_test last value (drop i xs)
-test_goes_on last value xs i next h digit is =
-    let d = get_or xs i 0 in
-    let rest = drop (suc i) xs in
-    let same : next ≡ value * 10 + digit_value d =
-    is ∙ ap (λ n. value * 10 + n) (sym (value_of_digit d digit)) in
-    sym (split_at last value xs i h
-    ∙ ap (λ b. (b && list_all is_ascii_digit rest)
-    && nat_le (value_after 10 (value * 10 + digit_value d) rest) last) digit
-    ∙ ap (λ n. list_all is_ascii_digit rest && nat_le (value_after 10 n rest) last) (sym same))

@@ -1,22 +1,21 @@
 -- The blocks of lines, span by span.
 use Rattle.std.proofs.Common.{◌≡◌, ℕ, suc, ◌+◌, ◌-◌, ◌≤◌, Bool, true, false, List, [], ◌∷◌, ◌++◌}
-use Rattle.std.proofs.Common.{take, drop, length, get_or, take_all, Bor, Option, Some, None, refl}
+use Rattle.std.proofs.Common.{take, drop, length, get_or, take_all, Bor, refl}
 use Rattle.std.proofs.Common.{sym, ◌∙◌, ap, ⊎_elim, arith, append_assoc, true≢false}
 use Rattle.std.specs.Prelude.{◌&&◌, ◌||◌, if◌then◌else◌}
 use Rattle.std.specs.List.{prefix_len}
-use Rattle.std.proofs.lemmas.Bool.{cases_Bool, cond-false, cond-true, not_from_false, not_from_true}
+use Rattle.std.proofs.lemmas.Bool.{cases_Bool, cond-false, cond-true, not_from_false}
 use Rattle.std.proofs.lemmas.List.{append-nil, drop-map, take-map}
 use Rattle.std.proofs.Math.Bool.{or-false}
 use Rattle.comment_blocks.specs.declared.block.Block.{Block}
 use Rattle.comment_blocks.specs.Texts.{is_blank}
-use Rattle.comment_blocks.specs.Spans.{gap, indented, is_empty, is_indented, is_plain, joined_to}
-use Rattle.comment_blocks.specs.Spans.{Piece, pieces_of, plain, reached, with_plain}
+use Rattle.comment_blocks.specs.Spans.{gap, indented, is_empty, is_indented, is_plain}
+use Rattle.comment_blocks.specs.Spans.{Piece, pieces_of, plain}
 use Rattle.comment_blocks.specs.Blocks.{blocks_behind, indented_block, is_free, plain_beyond}
 use Rattle.comment_blocks.specs.Blocks.{plain_block}
 use Rattle.comment_blocks.specs.LineSteps.{block_at, blocks_from, reach, span_block, span_len}
 use Rattle.comment_blocks.specs.LineSteps.{texts}
-use Rattle.comment_blocks.proofs.Cuttings.{indented_front, indented_line, plain_front, plain_line}
-use Rattle.comment_blocks.proofs.Cuttings.{Reach}
+use Rattle.comment_blocks.proofs.Cuttings.{indented_front, plain_front}
 
 -- what stands before the pieces matters by two facts alone
 pub from_behind : (before pieces : List Piece) → blocks_behind before pieces
@@ -29,56 +28,6 @@ from_behind before (plain lines ∷ pieces) =
     (from_behind (plain lines ∷ before) pieces)
 from_behind before (indented lines ∷ pieces) =
     ap (λ bs. indented_block lines ∷ bs) (from_behind (indented lines ∷ before) pieces)
-
-joined_not_free : (line : List ℕ) (pieces : List Piece) (o : Option Reach)
-    → is_free (joined_to line pieces o) ≡ false
-joined_not_free line pieces None = refl
-joined_not_free line pieces (Some beyond) = refl
-
-plain_not_free : (line : List ℕ) (pieces : List Piece) → is_free (with_plain line pieces) ≡ false
-plain_not_free line [] = refl
-plain_not_free line (gap ∷ pieces) = refl
-plain_not_free line (plain lines ∷ pieces) = refl
-plain_not_free line (indented lines ∷ pieces) = refl
-
--- lines whose first is empty, or that are none
-pub free_front : (line : List ℕ) (lines : List (List ℕ)) → is_free (pieces_of (line ∷ lines))
-    ≡ is_empty line
-free_front [] lines = refl
-free_front (b ∷ line) lines = ⊎_elim
-    (λ (blank : is_blank b ≡ true).
-    ap is_free (indented_line (b ∷ line) (pieces_of lines) blank)
-    ∙ joined_not_free (b ∷ line) (pieces_of lines) (reached (pieces_of lines)))
-    (λ (no : is_blank b ≡ false).
-    ap is_free (plain_line (b ∷ line) (pieces_of lines) (not_from_false (is_blank b) no))
-    ∙ plain_not_free (b ∷ line) (pieces_of lines))
-    (cases_Bool (is_blank b))
-
-joined_beyond : (line : List ℕ) (pieces : List Piece) (o : Option Reach)
-    → plain_beyond (joined_to line pieces o) ≡ false
-joined_beyond line pieces None = refl
-joined_beyond line pieces (Some beyond) = refl
-
-plain_is_beyond : (line : List ℕ) (pieces : List Piece) → plain_beyond (with_plain line pieces)
-    ≡ true
-plain_is_beyond line [] = refl
-plain_is_beyond line (gap ∷ pieces) = refl
-plain_is_beyond line (plain lines ∷ pieces) = refl
-plain_is_beyond line (indented lines ∷ pieces) = refl
-
--- the next span, where a line that isn't empty begins it
-pub beyond_front : (line : List ℕ) (lines : List (List ℕ)) → is_empty line ≡ false
-    → plain_beyond (pieces_of (line ∷ lines)) ≡ is_plain line
-beyond_front [] lines some = absurd (true≢false some)
-beyond_front (b ∷ line) lines some = ⊎_elim
-    (λ (blank : is_blank b ≡ true).
-    ap plain_beyond (indented_line (b ∷ line) (pieces_of lines) blank)
-    ∙ joined_beyond (b ∷ line) (pieces_of lines) (reached (pieces_of lines))
-    ∙ sym (not_from_true (is_blank b) blank))
-    (λ (no : is_blank b ≡ false).
-    ap plain_beyond (plain_line (b ∷ line) (pieces_of lines) (not_from_false (is_blank b) no))
-    ∙ plain_is_beyond (b ∷ line) (pieces_of lines) ∙ sym (not_from_false (is_blank b) no))
-    (cases_Bool (is_blank b))
 
 one_more : (done : List Block) (block : Block) (later : List Block) → (done ++ block ∷ []) ++ later
     ≡ done ++ (block ∷ later)

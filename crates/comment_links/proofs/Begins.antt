@@ -4,11 +4,11 @@ use Rattle.std.proofs.Common.{◌∷◌, ◌++◌, length, get_or, take, drop, O
 use Rattle.std.proofs.Common.{◌∙◌, ap, subst, arith, ⊎_elim, ◌==◌, ◌||◌, ◌&&◌, if◌then◌else◌, IsUtf8}
 use Rattle.std.specs.List.{last_or, list_all}
 use Rattle.std.specs.Str.{IsCharBoundary}
-use Rattle.std.proofs.lemmas.Bool.{and_left, and_parts, cases_lt, cond-false, eqb-true, or_cases}
+use Rattle.std.proofs.lemmas.Bool.{and_left, and_parts, cases_lt, cond-false}
 use Rattle.std.proofs.lemmas.Bool.{or_from, or_parts}
 use Rattle.std.proofs.lemmas.List.{drop_more, get_or_append_left, get_or-append-add, get_or_at}
 use Rattle.std.proofs.lemmas.List.{length-append, length-drop, length-take-le}
-use Rattle.std.proofs.lemmas.Str.{IsCharBoundary-after_ascii, IsCharBoundary-before_ascii}
+use Rattle.std.proofs.lemmas.Str.{IsCharBoundary-after_ascii}
 use Rattle.comment_blocks.specs.declared.block.LinkDef.{LinkDef}
 use Rattle.comment_links.specs.declared.found.Found.{Found}
 use Rattle.comment_links.specs.Marks.{Mark, IsMark, IsQuote, closing_quote}
@@ -18,27 +18,6 @@ use Rattle.comment_links.specs.InlinesOf.{quote_at, quote_of}
 use Rattle.comment_links.specs.InlineSteps.{HasNone, IsBegin, found_in, mark_of, may_begin}
 use Rattle.comment_links.proofs.AddressEnds.{address_is_ascii}
 use Rattle.comment_links.proofs.Lists.{found_len, here_from, none_more}
-
-begin_is_ascii : (b : ℕ) → may_begin b ≡ true → b < 128
-begin_is_ascii b is = ⊎_elim
-    (λ (front : (((b == 91 || b == 104) || b == 102) || b == 96) ≡ true). ⊎_elim
-    (λ (more : ((b == 91 || b == 104) || b == 102) ≡ true). ⊎_elim
-    (λ (two : (b == 91 || b == 104) ≡ true). ⊎_elim
-    (λ (h : (b == 91) ≡ true). omega (arith, eqb-true b 91 h))
-    (λ (h : (b == 104) ≡ true). omega (arith, eqb-true b 104 h))
-    (or_cases (b == 91) (b == 104) two))
-    (λ (h : (b == 102) ≡ true). omega (arith, eqb-true b 102 h))
-    (or_cases (b == 91 || b == 104) (b == 102) more))
-    (λ (h : (b == 96) ≡ true). omega (arith, eqb-true b 96 h))
-    (or_cases ((b == 91 || b == 104) || b == 102) (b == 96) front))
-    (λ (h : (b == 39) ≡ true). omega (arith, eqb-true b 39 h))
-    (or_cases (((b == 91 || b == 104) || b == 102) || b == 96) (b == 39) is)
-
--- a text may be cut where a mark may begin
-pub begin_cut : (text : List ℕ) (place : ℕ) → place < length text
-    → may_begin (get_or text place 0) ≡ true → IsCharBoundary text place
-begin_cut text place within is =
-    IsCharBoundary-before_ascii text place within (begin_is_ascii (get_or text place 0) is)
 
 no_quote : (b : ℕ) (tail : List ℕ) → (b == 96) ≡ false → (b == 39) ≡ false
     → quote_at (b ∷ tail) ≡ None

@@ -215,10 +215,6 @@ text_same a = (bytes_eq-Decides a a).1 refl
 
 -- ---- one more value
 
--- the value of the constant at a place is put at its name
-abbrev pub IsPut : List ConstFact → ℕ → ℤ → (List ℕ → Option ℤ) → (List ℕ → Option ℤ) → Type 0
-IsPut facts place number known new = (d : ConstFact) (q : List ℕ) → new q ≡ (if bytes_eq (get_or facts place d).name q then Some number else known q)
-
 record News (facts : List ConstFact) (known : List ℕ → Option ℤ) (fact : ConstFact) (number : ℤ) : Type 0 where
   once : count_named facts fact.name ≡ 1
   unknown : known fact.name ≡ None
@@ -334,12 +330,6 @@ module _ (facts : List ConstFact) (known : List ℕ → Option ℤ) (k : IsKnown
   exact name number c = found_all c.0 name number c.1
 
 -- ---- attempts
-
-pub nothing_known : (facts : List ConstFact) (known : List ℕ → Option ℤ) → ((name : List ℕ) → known name ≡ None) → IsKnown facts known
-nothing_known facts known h = record {
-  sound = λ name number p. let e : known name ≡ None = h name in cc;
-  stable = λ name number p. let e : known name ≡ None = h name in cc;
-}
 
 pub put_known : (facts : List ConstFact) (known new : List ℕ → Option ℤ) (place : ℕ) (d : ConstFact) (number : ℤ) → place < length facts
     → news_of facts known (get_or facts place d) ≡ Some number

@@ -1,14 +1,14 @@
 -- Steps of the evaluation on a stack whose innermost frame is the last.
 use Rattle.std.proofs.Common.{◌≡◌, ◌∙◌, ℕ, List, [], ◌∷◌, ◌++◌, ◌<◌, ◌+◌, length, take, drop, get_or, refl, sym, ap, append_assoc}
 use Rattle.std.proofs.Math.Seq.{take-append_seam}
-use Rattle.std.proofs.lemmas.List.{reverse-append, take-append-le, take-append-drop, drop_more}
+use Rattle.std.proofs.lemmas.List.{reverse-append, take-append-drop, drop_more}
 use Rattle.std.specs.Prelude.{Option, Some, None, reverse}
 use Rattle.const_eval.specs.declared.operator.Operator.{Operator}
 use Rattle.const_eval.specs.declared.value.Value.{Value}
 use Rattle.const_eval.specs.declared.machine.Frame.{Frame}
 use Rattle.const_eval.specs.declared.machine.Frame.TheVariants as f
-use Rattle.const_eval.specs.Values.{◌|>◌, parenthesize, apply_unary, apply_binary}
-use Rattle.const_eval.specs.Machine.{values, arrive, close, left_of, AreWithin, State, step, run, finish}
+use Rattle.const_eval.specs.Values.{◌|>◌, apply_unary, apply_binary}
+use Rattle.const_eval.specs.Machine.{values, arrive, State, step, run, finish}
 
 reverse_last : (before : List (Frame Value)) (frame : Frame Value) → reverse (before ++ frame ∷ []) ≡ frame ∷ reverse before
 reverse_last before frame = reverse-append before (frame ∷ [])
@@ -29,16 +29,6 @@ pub product_step : (frames before : List (Frame Value)) (left : Value) (operator
     → frames ≡ before ++ f.Product left operator ∷ [] → apply_binary operator left x ≡ Some y
     → arrive values (reverse frames) x ≡ Some (reverse before, y)
 product_step frames before left operator x y e h = rw (e, reverse_last before (f.Product left operator), h) refl
-
-left_within : (before : List (Frame Value)) (frame : Frame Value) (found : Option (ℕ × Value)) → AreWithin before found
-    → left_of (before ++ frame ∷ []) found ≡ left_of before found
-left_within before frame None h = refl
-left_within before frame (Some found) h = ap (λ t. Some (reverse t, found.1)) (take-append-le found.0 before (frame ∷ []) h)
-
-pub close_step : (frames before : List (Frame Value)) (x y : Value) (found : Option (ℕ × Value)) → frames ≡ before ++ f.Open ∷ []
-    → parenthesize x ≡ Some y → AreWithin before found → left_of before found ≡ arrive values (reverse before) y
-    → left_of frames found ≡ close values (reverse frames, x)
-close_step frames before x y found e h w g = rw (e, reverse_last before f.Open) (left_within before f.Open found w ∙ g ∙ sym (rw h refl))
 
 -- a token is taken, and the rest is left
 pub taken : (leaf : List ℕ → Option Value) (state next : State Value) (texts : List (List ℕ)) (i : ℕ) (d : List ℕ) → i < length texts

@@ -1,7 +1,6 @@
 -- Lists of one element, and the first place at which a test passes.
-use Rattle.std.proofs.Common.{◌≡◌, ◌≢◌, ◌<◌, ℕ, zero, suc, ◌+◌, Bool, true, false, cond, List, [], ◌∷◌, ◌++◌, Option, Some, None, length, filter, map, find, count_by, position, get_or, refl, sym, ap, ◌∙◌, subst, arith, not, ltb}
-use Rattle.std.specs.List.{filter_map, position_or_len}
-use Rattle.std.specs.Option.{option_to_list}
+use Rattle.std.proofs.Common.{◌≡◌, ◌≢◌, ◌<◌, ℕ, zero, suc, Bool, true, false, cond, List, [], ◌∷◌, Some, None, length, filter, map, find, position, get_or, refl, arith, ltb}
+use Rattle.std.specs.List.{position_or_len}
 use Rattle.std.proofs.lemmas.List.{length-map}
 use Rattle.std.proofs.lemmas.List.Folds.{list_all-map}
 use Rattle.std.proofs.lemmas.Bool.{lt-ltb}
@@ -11,10 +10,6 @@ pub only-other : {X : Type 0} (xs : List X) → length xs ≢ 1 → only xs ≡ 
 only-other [] h = refl
 only-other (x ∷ []) h = absurd (h refl)
 only-other (x ∷ y ∷ xs) h = refl
-
-pub only-option : {X : Type 0} (o : Option X) → only (option_to_list o) ≡ o
-only-option None = refl
-only-option (Some x) = refl
 
 -- a list of one element is that of its first
 only-find_step : {X : Type 0} (p : X → Bool) (x : X) (xs : List X) (b : Bool) → length (cond b (x ∷ filter p xs) (filter p xs)) ≡ 1

@@ -1,24 +1,22 @@
 -- The slots of the sorted names are those of the first types with these names.
-use Rattle.std.proofs.Common.{◌≡◌, ◌≢◌, ◌<◌, ◌≤◌, ◌+◌, ℕ, zero, suc, Bool, true, false, cond, ◌&&◌, List, [], ◌∷◌, ◌++◌, Option, Some, None, length, map, filter, get_or, refl, sym, ap, ◌∙◌, subst, arith, All, AllPairs, Contains, IsSorted, position, eqb, eq-eqb, eqb-true, inl, inr, slice_get}
-use Rattle.std.specs.List.{cons_option, filter_map, list_any, position_or_len}
-use Rattle.std.specs.Option.{option_eq, option_map, option_map_or, option_and_then, is_some}
+use Rattle.std.proofs.Common.{◌≡◌, ◌<◌, ◌≤◌, ◌+◌, ℕ, zero, suc, Bool, true, false, cond, ◌&&◌, List, [], ◌∷◌, Option, Some, None, length, map, filter, get_or, refl, sym, ap, ◌∙◌, subst, arith, AllPairs, Contains, IsSorted, position, eqb, eqb-true, inl, inr}
+use Rattle.std.specs.List.{position_or_len}
+use Rattle.std.specs.Option.{option_map}
 use Rattle.std.specs.Ordering.{nat_cmp, is_lt, ordering_then, ordering_reverse}
-use Rattle.std.specs.Cmp.Lexicographic.{slice_cmp, texts_ties}
+use Rattle.std.specs.Cmp.Lexicographic.{slice_cmp}
 use Rattle.std.specs.declared.cmp.Ordering.{Ordering}
 use Rattle.std.specs.declared.cmp.Ordering.TheVariants.{Less, Equal, Greater}
 use Rattle.std.specs.Str.{bytes_eq}
-use Rattle.std.proofs.lemmas.Bool.{cases_lt, lt-ltb, eqb-false, ne_eqb}
+use Rattle.std.proofs.lemmas.Bool.{cases_lt, lt-ltb}
 use Rattle.std.proofs.lemmas.Cmp.{nat_list_cmp_total, nat_cmp_total, tied_itself, ranked}
-use Rattle.std.proofs.lemmas.List.Elements.{filter_passes, filter_agree, All-contains, Contains-get_or}
+use Rattle.std.proofs.lemmas.List.Elements.{filter_passes, All-contains, Contains-get_or}
 use Rattle.std.proofs.lemmas.List.{get_or_default}
 use Rattle.std.proofs.lemmas.List.Kept.{AllPairs-filter}
 use Rattle.std.proofs.lemmas.List.Quantifiers.{position-Some}
 use Rattle.doc_order.specs.declared.members.Member.{Member}
 use Rattle.doc_order.specs.declared.members.Member.TheVariants.{Value, TypeDef, Func, Method}
-use Rattle.doc_order.specs.declared.members.Kind.{Kind}
-use Rattle.doc_order.specs.declared.members.Kind.TheVariants.{Constants, Variables, Functions, Types, Methods}
 use denote.Ref.{Bor}
-use Rattle.doc_order.specs.Documentation.{Name, is_exported_name, at_number, key_of, is_shown, is_type_named, kind_of, only, place_of, same_kind, stands_in, type_of, IsBefore, IsSortedFilter}
+use Rattle.doc_order.specs.Documentation.{Name, at_number, key_of, is_type_named, type_of, IsBefore, IsSortedFilter}
 use Rattle.doc_order.specs.Slots.{is_exported_type, slot_of}
 use Rattle.doc_order.proofs.ListLemmas.{position-at, position-none}
 use Rattle.doc_order.proofs.OrderLemmas.{element_at, mapped_at, mapped_length, at_number-true, at_number-within, within-at_number}
@@ -46,20 +44,6 @@ kept_at p (x ∷ xs) y (suc k) h e passes = filter_shifts p x y xs (p x) (kept_a
 
 pub Contains-filter : {X : Type 0} (p : X → Bool) (xs : List X) (y : X) → Contains xs y → p y ≡ true → Contains (filter p xs) y
 Contains-filter p xs y h passes = kept_at p xs y h.0 h.1 h.2 passes
-
-from_step : {X : Type 0} (p : X → Bool) (x y : X) (xs : List X) (b : Bool) → (Contains (filter p xs) y → Contains xs y)
-    → Contains (cond b (x ∷ filter p xs) (filter p xs)) y → Contains (x ∷ xs) y
-from_step p x y xs true rest (zero, h, e) = (0, omega arith, e)
-from_step p x y xs true rest (suc k, h, e) =
-    let found : Contains xs y = rest (k, omega arith, e) in
-    (suc found.0, omega (arith, found.1), found.2)
-from_step p x y xs false rest h =
-    let found : Contains xs y = rest h in
-    (suc found.0, omega (arith, found.1), found.2)
-
-pub Contains-from_filter : {X : Type 0} (p : X → Bool) (xs : List X) (y : X) → Contains (filter p xs) y → Contains xs y
-Contains-from_filter p [] y h = h
-Contains-from_filter p (x ∷ xs) y h = from_step p x y xs (p x) (Contains-from_filter p xs y) h
 
 -- a filter of all numbers in order
 pub sorted_filter : (wanted : Member → Bool) (members : List Member) (numbers : List ℕ) → IsSortedFilter (λ _. true) members numbers

@@ -81,12 +81,3 @@ plain-kind kinds.Text text a b c = plain-cuts m.Text (refl, refl, refl)
 plain-kind kinds.Operator text a b c = absurd (a refl)
 plain-kind kinds.Semi text a b c = absurd (b refl)
 plain-kind kinds.AutoSemi text a b c = absurd (c refl)
-
-pub same-cuts : (mark real : Mark) → mark ≡ real → CutsAs mark real
-same-cuts mark real is = rw is (record {
-  same_opens = refl;
-  same_closes = refl;
-  same_semi = refl;
-  opening = λ e. refl;
-  closing = λ e. refl;
-})

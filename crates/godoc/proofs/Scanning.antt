@@ -1,5 +1,5 @@
 -- What is known of sources while they are read.
-use Rattle.std.proofs.Common.{◌≡◌, ℕ, ◌+◌, ◌<◌, ◌≤◌, List, [], ◌∷◌, ◌++◌, Option, sym, ap, ◌∙◌, subst, arith, append_assoc, zero-add}
+use Rattle.std.proofs.Common.{◌≡◌, ℕ, ◌+◌, ◌<◌, ◌≤◌, List, [], ◌∷◌, ◌++◌, Option, sym, ap, ◌∙◌, subst, append_assoc, zero-add}
 use Rattle.std.specs.Prelude.{All, IsSome}
 use Rattle.std.specs.Option.{ForSome}
 use Rattle.std.proofs.lemmas.List.Elements.{All-head, All-tail}
@@ -7,19 +7,12 @@ use Rattle.std.proofs.lemmas.List.Sums.{sum_by-append}
 use Rattle.corpus.specs.Snapshots.{bytes_of, size_of}
 use Rattle.corpus.specs.declared.snapshot.TheConstants.{MAX_SCAN_BYTES}
 use Rattle.tree_io.specs.declared.tree.Entry.{Entry}
-use Rattle.tree_io.specs.declared.tree.Entry.TheVariants.{Bytes, Large, Unread}
-use Rattle.tree_io.specs.declared.tree.TheConstants.{MAX_FILE_BYTES}
-use Rattle.tree_io.specs.Entries.{IsReadSoFar, IsSmall}
+use Rattle.tree_io.specs.Entries.{IsReadSoFar}
 use Rattle.tree_io.specs.Scans.{IsKnown, under_way}
 use Rattle.tree_io.specs.Sources.{Contents, Sources, bytes_at}
 use Rattle.godoc.specs.Limits.{PassBytes}
 
 -- ---- bytes
-
-pub small_size : (entry : Entry) → IsSmall entry → size_of entry ≤ MAX_FILE_BYTES
-small_size (Bytes bytes) small = small
-small_size Large small = omega arith
-small_size Unread small = omega arith
 
 -- one file more
 pub bytes_of-push : (sources : Sources) (path : List ℕ) (entry : Entry) → bytes_of (sources ++ (path, entry) ∷ []) ≡ bytes_of sources + size_of entry

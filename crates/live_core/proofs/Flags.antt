@@ -1,9 +1,8 @@
 -- The flags of a draft, by the pieces that are finished.
-use Rattle.std.proofs.Common.{◌≡◌, ◌≢◌, ℕ, zero, suc, ◌+◌, ◌<◌, ◌⊎◌, Bool, true, false, ◌||◌, ◌&&◌, eqb, Option, None, Some, List, [], ◌∷◌, length, get_or, refl, sym, ap, ◌∙◌, subst, arith, inl, inr, replicate, slice_get, Result, Ok, Err, MatchOption, MatchBool}
+use Rattle.std.proofs.Common.{◌≡◌, ◌≢◌, ℕ, zero, suc, ◌<◌, ◌⊎◌, Bool, true, false, ◌||◌, ◌&&◌, eqb, Option, None, Some, List, [], ◌∷◌, length, get_or, refl, sym, ap, ◌∙◌, subst, arith, inl, inr, slice_get, Result, Ok, Err, MatchOption, MatchBool}
 use Rattle.std.proofs.Math.ListN.{set}
-use Rattle.std.proofs.lemmas.List.{length-set, length-replicate, get_or-set_same, get_or-set_other, get_or-replicate}
-use Rattle.std.proofs.lemmas.List.Sums.{sum_by-cons, sum_by-set}
-use Rattle.std.proofs.lemmas.List.Folds.{sum_by-replicate}
+use Rattle.std.proofs.lemmas.List.{length-set, get_or-set_same, get_or-set_other}
+use Rattle.std.proofs.lemmas.List.Sums.{sum_by-cons}
 use Rattle.std.proofs.lemmas.Option.{slice_get-get_or, slice_get_within, get_or_from_slice_get}
 use Rattle.std.proofs.lemmas.Bool.{false≢true}
 use Rattle.std.proofs.lemmas.Bool.Decides.{nat_tests}
@@ -87,18 +86,6 @@ unfinished_draft scan done draft is lacks = by_test (are_all_among done scan.pie
 
 -- ---- a new draft, and one more finished piece
 
-pub new_draft : (sources pieces : ℕ) → IsDraftOf (record { sources = sources; pieces = pieces }) []
-    (record { sources = sources; finished = replicate pieces false })
-new_draft sources pieces = record {
-  sources = refl;
-  pieces = length-replicate pieces false;
-  finished = λ i below.
-      let within : i < length (replicate pieces false) = subst (λ n. i < n)
-      (sym (length-replicate pieces false)) below in
-      slice_get-get_or (replicate pieces false) i false within
-      ∙ ap Some (get_or-replicate pieces i false false below);
-}
-
 eqb_same : (i : ℕ) → eqb i i ≡ true
 eqb_same i = grind (arith, nat_tests)
 
@@ -150,18 +137,6 @@ finished_more scan done draft index is lowered = record {
         ]
 
 -- ---- the number of missing pieces
-
-pub missing-replicate : (pieces : ℕ) → missing_of (replicate pieces false) ≡ pieces
-missing-replicate pieces = omega (arith, sum_by-replicate lack pieces false)
-
-pub missing-set : (flags : List Bool) (index : ℕ) → slice_get flags index ≡ Some false
-    → missing_of (set flags index true) + 1 ≡ missing_of flags
-missing-set flags index lowered =
-    let within = slice_get_within flags index false lowered in
-    let changed = sum_by-set lack flags index true false within in
-    let before : lack (get_or flags index false) ≡ 1 = ap lack
-    (get_or_from_slice_get flags index false false lowered) in
-    omega arith
 
 -- ---- what finishing a piece answers
 

@@ -1,5 +1,5 @@
 -- What a core answers to each kind of event, and what it is then.
-use Rattle.std.proofs.Common.{inl, inr, ◌≡◌, ℕ, zero, suc, ◌+◌, ◌<◌, ◌≤◌, ◌⊎◌, Bool, true, false, cond, Option, None, Some, List, [], ◌∷◌, ◌++◌, length, refl, sym, ap, ◌∙◌, subst, arith, is_some, ltb, replicate, slice_get, length-append}
+use Rattle.std.proofs.Common.{inl, inr, ◌≡◌, ℕ, zero, suc, ◌+◌, ◌<◌, ◌≤◌, ◌⊎◌, Bool, true, false, cond, Option, None, Some, List, [], ◌∷◌, ◌++◌, length, refl, sym, ap, ◌∙◌, subst, arith, ltb, slice_get, length-append}
 use Rattle.std.proofs.Math.ListN.{set}
 use Rattle.std.proofs.lemmas.Bool.{false≢true}
 use Rattle.std.proofs.lemmas.Bool.Decides.{nat_tests}
@@ -7,13 +7,13 @@ use Rattle.std.proofs.lemmas.Option.{slice_get_within}
 use Rattle.live_core.specs.declared.event.Event.{Event}
 use Rattle.live_core.specs.declared.event.Event.TheVariants as events
 use Rattle.live_core.specs.declared.event.Answer.{Answer}
-use Rattle.live_core.specs.declared.event.Answer.TheVariants.{Done, Published, Served, Illegal}
+use Rattle.live_core.specs.declared.event.Answer.TheVariants.{Done, Published, Illegal}
 use Rattle.live_core.specs.declared.event.NotLegal.{NotLegal}
-use Rattle.live_core.specs.declared.event.NotLegal.TheVariants.{ScanUnderWay, NoScan, UnknownPiece, PieceTwice, Unfinished}
+use Rattle.live_core.specs.declared.event.NotLegal.TheVariants.{NoScan, UnknownPiece, PieceTwice, Unfinished}
 use Rattle.live_core.specs.Events.{Scan, under_way, finished, published, sources_of, last_of, is_among, piece_answer, publish_answer, answer_of, is_legal, past_after}
 use Rattle.live_core.specs.State.{DraftState, CoreState, IsDraftOf, AreDraftOf, IsAfter}
 use Rattle.live_core.specs.Steps.{missing_of, Follows}
-use Rattle.live_core.proofs.Flags.{whole_draft, unfinished_draft, new_draft, finished_more}
+use Rattle.live_core.proofs.Flags.{whole_draft, unfinished_draft, finished_more}
 
 -- ---- the past of the next event
 
@@ -74,39 +74,6 @@ a_scan (Some scan) done (Some draft) it is e =
     (scan, refl, subst (λ d. IsDraftOf scan done d) same is)
 
 -- ---- a scan begins
-
-pub scan-under_way : (old : CoreState) (draft : DraftState) (sources pieces : ℕ)
-    → old.draft ≡ Some draft
-    → Follows old (events.Scan sources pieces) (Illegal ScanUnderWay) old
-scan-under_way old draft sources pieces has = illegal_follows old (events.Scan sources pieces)
-    (Illegal ScanUnderWay) refl (λ opening past before.
-    let found = a_scan (under_way past) (finished past) old.draft draft before.draft has in
-    sym (ap (λ (o : Option Scan). cond (is_some o) (Illegal ScanUnderWay) Done) found.1))
-
-pub scan-begins : (old : CoreState) (sources pieces : ℕ) → old.draft ≡ None
-    → Follows old (events.Scan sources pieces) Done
-    (record old {
-      draft = Some (record {
-        sources = sources;
-        finished = replicate pieces false;
-      });
-    })
-scan-begins old sources pieces none =
-    legal_follows old (events.Scan sources pieces) Done
-    (record old {
-      draft = Some (record {
-        sources = sources;
-        finished = replicate pieces false;
-      });
-    }) refl (omega arith) (λ opening past before.
-    let idle = no_scan (under_way past) (finished past) old.draft before.draft none in (
-      sym (ap (λ (o : Option Scan). cond (is_some o) (Illegal ScanUnderWay) Done) idle),
-      record {
-        editions = before.editions;
-        newest = before.newest;
-        draft = new_draft sources pieces;
-      },
-    ))
 
 -- ---- a piece is finished
 
@@ -219,13 +186,6 @@ piece-refused old draft next why worker index has given =
 
 -- ---- an edition is published
 
-pub publish-no_scan : (old : CoreState) → old.draft ≡ None → Follows old events.Publish
-    (Illegal NoScan) old
-publish-no_scan old none = illegal_follows old events.Publish (Illegal NoScan) refl
-    (λ opening past before.
-    let idle = no_scan (under_way past) (finished past) old.draft before.draft none in
-    sym (ap (λ o. publish_answer o (finished past) (length (published opening past))) idle))
-
 pub publish-unfinished : (old : CoreState) (draft : DraftState) → old.draft ≡ Some draft
     → (missing_of draft.finished ≡ 0 → ⊥)
     → Follows old events.Publish (Illegal Unfinished) old
@@ -268,13 +228,3 @@ publish-done old draft has whole =
     ))
 
 -- ---- a connection enters
-
-pub enter-serves : (old : CoreState) (connection request : ℕ)
-    → Follows old (events.Enter connection request) (Served old.editions old.newest request) old
-enter-serves old connection request =
-    legal_follows old (events.Enter connection request) (Served old.editions old.newest request) old
-    refl (omega arith) (λ opening past before. (
-      ap (λ n. Served n old.newest request) before.editions
-          ∙ ap (λ n. Served (length (published opening past)) n request) before.newest,
-      record { editions = before.editions; newest = before.newest; draft = before.draft },
-    ))

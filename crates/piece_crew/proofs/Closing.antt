@@ -58,8 +58,3 @@ joined_more all items rest id other v w before cut one =
           omega (arith, times-append x v.claimed w.claimed);
       ended = λ ended. let a = before.ended ended in omega (arith, length-append v.past w.past);
     }
-
--- the seat that is joined next is at the same word
-pub joined_id : (all items rest : List Seat) (id other : TableId) (v w : View) → IsJoined all items id v → items ≡ rest ++ seat_of other w ∷ [] → other ≡ id
-joined_id all items rest id other v w before cut =
-    ap (λ (word : Word). word.id) ((All-pop (λ (seat : Seat). seat.word ≡ (seat_of id v).word) items rest (Some (seat_of other w)) cut before.word).1)

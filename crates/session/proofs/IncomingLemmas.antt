@@ -1,5 +1,5 @@
 -- What is known of a stream while it is read.
-use Rattle.std.proofs.Common.{◌≡◌, ℕ, ◌-◌, cond, List, [], ◌++◌, length, Option, sym, ap, ◌∙◌, subst, append_assoc, append-nil}
+use Rattle.std.proofs.Common.{◌≡◌, ℕ, ◌-◌, cond, List, ◌++◌, length, Option, sym, ap, ◌∙◌, subst, append_assoc}
 use Rattle.http_wire.specs.declared.request.Request.{Request}
 use Rattle.http_wire.specs.declared.heads.Next.{Next}
 use Rattle.http_wire.specs.declared.heads.Next.TheVariants as answers
@@ -7,7 +7,7 @@ use Rattle.http_wire.specs.Reading.{Reading, Answers}
 use Rattle.http_wire.specs.Requests.{HasGiven}
 use Rattle.http_wire.proofs.RequestLaws.{HasGiven-append}
 use Rattle.link_io.specs.Streams.{Takes}
-use Rattle.link_io.proofs.Laws.{Takes-then, Takes-none}
+use Rattle.link_io.proofs.Laws.{Takes-then}
 
 -- some bytes were read and fed, and no request was given of them yet
 pub record HasHeard (left left_after : Option (List ℕ)) (old new : Reading) : Type 0 where
@@ -15,15 +15,6 @@ pub record HasHeard (left left_after : Option (List ℕ)) (old new : Reading) : 
   pub takes : Takes left bytes left_after
   pub given : (fed : List ℕ) (given : List Request) → HasGiven fed given old.rest
       → HasGiven (fed ++ bytes) given new.rest
-
-pub HasHeard-nothing : (left : Option (List ℕ)) (reading : Reading) → HasHeard left left reading
-    reading
-HasHeard-nothing left reading = record {
-  bytes = [];
-  takes = Takes-none left;
-  given = λ fed given before. subst (λ w. HasGiven w given reading.rest) (sym (append-nil fed))
-      before;
-}
 
 -- a further piece was read and fed
 pub HasHeard-more : (left middle after : Option (List ℕ)) (old now new : Reading)

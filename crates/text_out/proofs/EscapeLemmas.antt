@@ -1,9 +1,8 @@
 -- Lemmas on the five escapes: a pass that copies runs between them, and that they keep UTF-8.
-use Rattle.std.proofs.Common.{◌≡◌, ℕ, ◌+◌, ◌/◌, ◌<◌, ◌≤◌, Bool, true, false, cond, List, [], ◌∷◌, ◌++◌, length, take, drop, get_or, refl, sym, ap, ◌∙◌, subst, arith, append_assoc, ne_eqb, le-ltb, ⊎_elim, codes, ◌&&◌, length-append}
-use Rattle.std.proofs.lemmas.List.{take_more, take_all, take-append-le, append-nil}
+use Rattle.std.proofs.Common.{◌≡◌, ℕ, ◌+◌, ◌/◌, ◌<◌, ◌≤◌, Bool, true, false, cond, List, [], ◌∷◌, ◌++◌, length, take, get_or, refl, sym, ap, ◌∙◌, subst, arith, append_assoc, ne_eqb, le-ltb, ⊎_elim, codes, ◌&&◌, length-append}
+use Rattle.std.proofs.lemmas.List.{take_more, take-append-le, append-nil}
 use Rattle.std.proofs.lemmas.List.Edits.{between_none, between_more}
 use Rattle.std.proofs.lemmas.List.Concat.{flat_map-append}
-use Rattle.std.proofs.lemmas.Slice.{between_to_end}
 use Rattle.std.proofs.lemmas.Str.{IsUtf8-append, IsUtf8-encode, IsUtf8-nil, encode_ascii}
 use Rattle.std.proofs.lemmas.Bool.{cases_lt, false≢true}
 use Rattle.std.specs.List.{between}
@@ -20,14 +19,6 @@ pub record Escaping (old now text : List ℕ) (start i : ℕ) : Type 0 where
   pub grown : now ++ between start i text ≡ old ++ escaped (take i text)
   pub kept : take (length old) now ≡ old
   pub longer : length old ≤ length now
-
-pub escaping_begins : (old text : List ℕ) → Escaping old old text 0 0
-escaping_begins old text = record {
-  start_in = omega arith;
-  grown = refl;
-  kept = take_all (length old) old (omega arith);
-  longer = omega arith;
-}
 
 escaped_more : (text : List ℕ) (i : ℕ) → i < length text
     → escaped (take (i + 1) text) ≡ escaped (take i text) ++ escape_of (get_or text i 0)
@@ -92,12 +83,6 @@ escaping_wrote old now text new reference start i start' h inside stands grown m
 pub without_error : {T E : Type 0} (r : Result T E) (P : Type 0) → is_err r ≡ false → OnOk r P → P
 without_error (Ok x) P none h = h
 without_error (Err e) P none h = absurd (false≢true (sym none))
-
-pub escaping_ends : (old now text : List ℕ) (start i : ℕ) → Escaping old now text start i → length text ≤ i
-    → now ++ drop start text ≡ old ++ escaped text
-escaping_ends old now text start i h all =
-    ap (λ w. now ++ w) (sym (between_to_end text start i all)) ∙ h.grown
-    ∙ ap (λ w. old ++ escaped w) (take_all i text all)
 
 -- ---- UTF-8
 

@@ -1,20 +1,18 @@
 -- Laws of what is read of a scan, for the crates above.
-use Rattle.std.proofs.Common.{◌≡◌, ℕ, ◌+◌, ◌<◌, ◌≤◌, Bool, true, false, cond, List, [], ◌∷◌, ◌++◌, length, get_or, Option, Some, None, IfSome, IsSome, All, map, refl, ap, ◌∙◌, inr, arith}
-use Rattle.std.specs.Prelude.{IsSomeAnd, unwrap_or, nat_lt}
+use Rattle.std.proofs.Common.{◌≡◌, ℕ, ◌+◌, ◌<◌, cond, List, [], ◌∷◌, ◌++◌, length, get_or, Option, Some, None, IfSome, IsSome, All, map, refl, ap, ◌∙◌, arith}
+use Rattle.std.specs.Prelude.{unwrap_or}
 use Rattle.std.specs.Option.{ForSome}
 use Rattle.std.proofs.lemmas.List.{map-append}
-use Rattle.std.proofs.lemmas.List.Elements.{All-nil, All-cons, All-append, All-head, All-tail}
-use Rattle.std.proofs.lemmas.List.Sums.{sum_by-append, sum_by-cons}
+use Rattle.std.proofs.lemmas.List.Elements.{All-append}
+use Rattle.std.proofs.lemmas.List.Sums.{sum_by-append}
 use Prim.Native.Nat.{zero, suc}
 use Rattle.plain_data.specs.Causes.{RoseBy}
 use Rattle.tree_io.specs.Path.{paths_of}
 use Rattle.tree_io.specs.Sources.{Contents, Sources, IsFrom, bytes_at, entry_of, is_unread, unread_count}
 use Rattle.tree_io.specs.Scans.{IsListed, under_way}
 use Rattle.tree_io.specs.Entries.{IsReadSoFar}
-use Rattle.tree_io.specs.declared.tree.TheConstants.{MAX_FILE_BYTES}
 use Rattle.tree_io.specs.declared.tree.Entry.{Entry}
-use Rattle.tree_io.specs.declared.tree.Entry.TheVariants.{Bytes, Large}
-use Rattle.tree_io.proofs.Reading.{IsKnown-listed, IsReadSoFar-none}
+use Rattle.tree_io.proofs.Reading.{IsKnown-listed}
 pub use Rattle.tree_io.proofs.FileMaps.{IsRising-strings}
 
 unread_count-append : (xs ys : Sources) → unread_count (xs ++ ys) ≡ unread_count xs + unread_count ys
@@ -28,10 +26,6 @@ entries-append : (scans : Option (List Contents)) (xs ys : Sources)
     → IfSome scans (λ told. All (IsFrom (under_way told)) (xs ++ ys))
 entries-append None xs ys f g = tt
 entries-append (Some told) xs ys f g = All-append (IsFrom (under_way told)) xs ys f g
-
--- before the first read
-pub IsReadSoFar-nothing : (scans : Option (List Contents)) (count : ℕ) → IsReadSoFar scans [] [] count count
-IsReadSoFar-nothing scans count = IsReadSoFar-none scans count count (omega arith)
 
 -- some paths, and then more
 pub IsReadSoFar-append : (scans : Option (List Contents)) (ps qs : List (List ℕ)) (xs ys : Sources) (a b c : ℕ)
@@ -60,53 +54,3 @@ entry_at contents path = entry_of (unwrap_or (bytes_at contents path) [])
 
 all_at : Contents → List (List ℕ) → Sources
 all_at contents paths = map (λ path. (path, entry_at contents path)) paths
-
-paths_of-all_at : (contents : Contents) (paths : List (List ℕ)) → paths_of (all_at contents paths) ≡ paths
-unfolding all_at
-paths_of-all_at contents [] = refl
-paths_of-all_at contents (path ∷ paths) = ap (λ l. path ∷ l) (paths_of-all_at contents paths)
-
-entry_of-read : (t : Bool) (bytes : List ℕ) → is_unread (cond t Large (Bytes bytes)) ≡ false
-entry_of-read true bytes = refl
-entry_of-read false bytes = refl
-
-unread_count-all_at : (contents : Contents) (paths : List (List ℕ)) → unread_count (all_at contents paths) ≡ 0
-unfolding all_at entry_at
-unread_count-all_at contents [] = refl
-unread_count-all_at contents (path ∷ paths) =
-    sum_by-cons (λ s. cond (is_unread s.1) 1 0) (path, entry_of (unwrap_or (bytes_at contents path) [])) (all_at contents paths)
-    ∙ (let bytes = unwrap_or (bytes_at contents path) [] in
-    rw (entry_of-read (nat_lt MAX_FILE_BYTES (length bytes)) bytes) (omega (arith, unread_count-all_at contents paths)))
-
-from_some : (found : Option (List ℕ)) → IsSome found → IsSomeAnd found (λ bytes. entry_of (unwrap_or found []) ≡ entry_of bytes)
-from_some None h = cc
-from_some (Some bytes) h = refl
-
-IsFrom-all_at : (contents : Contents) (paths : List (List ℕ)) → All (λ path. IsSome (bytes_at contents path)) paths → All (IsFrom contents) (all_at contents paths)
-unfolding all_at entry_at
-IsFrom-all_at contents [] h = All-nil (IsFrom contents)
-IsFrom-all_at contents (path ∷ paths) h =
-    All-cons (IsFrom contents) (path, entry_of (unwrap_or (bytes_at contents path) [])) (all_at contents paths)
-    (inr (from_some (bytes_at contents path) (All-head (λ q. IsSome (bytes_at contents q)) path paths h)))
-    (IsFrom-all_at contents paths (All-tail (λ q. IsSome (bytes_at contents q)) path paths h))
-
--- known paths have sources that reads can give
-pub IsReadSoFar-known : (scans : Option (List Contents)) (paths : List (List ℕ)) (before now : ℕ) → before ≤ now
-    → ForSome scans (λ told. All (λ path. IsSome (bytes_at (under_way told) path)) paths)
-    → (sources : Sources) × IsReadSoFar scans paths sources before now
-IsReadSoFar-known None paths before now later known = (
-  all_at [] paths,
-  record {
-    same_paths = paths_of-all_at [] paths;
-    entries = tt;
-    few_unread = omega (arith, unread_count-all_at [] paths);
-  },
-)
-IsReadSoFar-known (Some told) paths before now later known = (
-  all_at (under_way told) paths,
-  record {
-    same_paths = paths_of-all_at (under_way told) paths;
-    entries = IsFrom-all_at (under_way told) paths (known told refl);
-    few_unread = omega (arith, unread_count-all_at (under_way told) paths);
-  },
-)

@@ -1,6 +1,5 @@
 -- What reading the listed paths one after another gives: sources that are scanned from the contents.
-use Rattle.std.proofs.Common.{◌≡◌, ℕ, ◌+◌, ◌<◌, ◌≤◌, Bool, true, false, cond, Option, Some, None, IfSome, IsSome, List, [], ◌∷◌, ◌++◌, length, get_or, All, inl, inr, refl, sym, ap, ◌∙◌, subst, arith, length-append}
-use Rattle.std.proofs.lemmas.List.{get_or_push}
+use Rattle.std.proofs.Common.{◌≡◌, ℕ, ◌+◌, ◌<◌, ◌≤◌, Bool, true, false, cond, Option, Some, None, IfSome, IsSome, List, [], ◌∷◌, ◌++◌, length, get_or, All, inl, inr, refl, sym, ap, ◌∙◌, subst, arith}
 use Rattle.std.specs.Str.{bytes_eq}
 use Rattle.std.proofs.lemmas.Bool.{false≢true}
 use Rattle.std.proofs.lemmas.Option.{none-some}
@@ -9,9 +8,9 @@ use Rattle.std.proofs.lemmas.List.Sums.{fold_push}
 use Rattle.std.proofs.lemmas.Slice.Eq.{bytes_eq-Decides}
 use Prim.Native.Nat.{zero, suc}
 use Rattle.plain_data.specs.Causes.{Rose}
-use Rattle.tree_io.specs.Path.{HasSourcePaths, paths_of}
+use Rattle.tree_io.specs.Path.{paths_of}
 use Rattle.tree_io.specs.Sources.{Contents, Sources, IsFrom, bytes_at, entry_of, is_unread, unread_count, IsReadable}
-use Rattle.tree_io.specs.Scans.{under_way, OpensScan, IsKnown, IsListed, IsReadAs}
+use Rattle.tree_io.specs.Scans.{under_way, IsKnown, IsListed, IsReadAs}
 use Rattle.tree_io.specs.Entries.{IsReadSoFar}
 use Rattle.tree_io.specs.declared.tree.Entry.{Entry}
 use Rattle.tree_io.specs.declared.tree.Entry.TheVariants.{Bytes, Large, Unread}
@@ -73,15 +72,6 @@ IsReadSoFar-failed scans paths sources before middle now path so_far rose =
       entries = entries-push scans sources path Unread so_far.entries (next_unread scans path);
       few_unread = rw count (omega (arith, so_far.few_unread));
     }
-
-last_of_more : (before : List Contents) (contents : Contents) → under_way (before ++ contents ∷ []) ≡ contents
-last_of_more before contents = get_or_push before contents [] _ (omega (arith, length-append before (contents ∷ [])))
-
--- a scan that was opened is one of a set of files whose paths belong
-pub HasSourcePaths-opened : (before : Option (List Contents)) (now : List Contents) → OpensScan before (Some now) → HasSourcePaths (under_way now)
-HasSourcePaths-opened None now opens = absurd opens
-HasSourcePaths-opened (Some before) now opens =
-    rw (opens.2, last_of_more before opens.0) opens.1
 
 some_either : (b : Bool) (bytes : List ℕ) (rest : Option (List ℕ)) → IsSome rest → IsSome (cond b (Some bytes) rest)
 some_either true bytes rest some = refl

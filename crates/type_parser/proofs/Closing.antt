@@ -56,9 +56,6 @@ goes_on-back depth mark h e = rw e at h
 ends-zero : (depth : ℕ) (mark : Mark) → ends depth mark ≡ true → depth ≡ 0
 ends-zero depth mark h = grind (arith, nat_tests, common_steps)
 
-ends-closes : (depth : ℕ) (mark : Mark) → ends depth mark ≡ true → closes mark ≡ true
-ends-closes depth mark h = grind (arith, nat_tests, common_steps)
-
 -- what nests ends at the bracket that closes it
 pub inside-nests : (depth : ℕ) (inner : List Word) (c : Word) (rest : List Word) → Nests depth inner
     → closes c.mark ≡ true

@@ -16,10 +16,6 @@ use Rattle.type_parser.proofs.EntryLists.{from-place, length-reverse}
 use Rattle.std.proofs.lemmas.List.{reverse-append}
 use Rattle.type_parser.proofs.Pieces.{piece-then, piece-all, split-then, split-none}
 
--- the words after the first
-pub plain-rest : (ws : List Matched) → plain (take (length ws - 1) (drop 1 ws)) ≡ drop 1 (plain ws)
-plain-rest ws = ap plain (rest-is ws) ∙ plain-drop 1 ws
-
 pub matched-rest : (ws : List Matched) → AreMatched ws
     → AreMatched (take (length ws - 1) (drop 1 ws))
 matched-rest ws h = matched-take (length ws - 1) (drop 1 ws) (matched-drop 1 ws h)
@@ -231,14 +227,6 @@ reverse-front (w ∷ ws) d =
     let e = ap reverse (last-from w ws d)
     ∙ reverse-append (take (length ws) (w ∷ ws)) (get_or (w ∷ ws) (length ws) d ∷ []) in
     rw (one-less (length ws)) (sym (ap (λ us. get_or us 0 d) e))
-
-pub reverse-shorter : {A : Type 0} (xs : List A)
-    → reverse (take (length xs - 1) xs) ≡ drop 1 (reverse xs)
-reverse-shorter [] = refl
-reverse-shorter {A} (w ∷ ws) =
-    let e = ap reverse (last-from w ws w)
-    ∙ reverse-append (take (length ws) (w ∷ ws)) (get_or (w ∷ ws) (length ws) w ∷ []) in
-    rw (one-less (length ws)) (sym (ap (λ us. drop 1 us) e))
 
 length-more : {A : Type 0} (xs : List A) (x : A) → length (xs ++ x ∷ []) ≡ suc (length xs)
 length-more [] x = refl

@@ -16,9 +16,9 @@ use Rattle.go_ast.specs.Cutting.{Encloses, Each, pieces, pieces_from, depth_afte
 use Rattle.go_ast.specs.Cutting.{last_of}
 use Rattle.go_ast.specs.Marks.{same_mark}
 use Rattle.go_ast.specs.Types as g
-use Rattle.go_ast.specs.Types.{field, term, split_tag}
+use Rattle.go_ast.specs.Types.{term, split_tag}
 use Rattle.type_parser.specs.Reading as reads
-use Rattle.type_parser.specs.Reading.{◌>>=◌, ◌<$>◌, each, alone, looks_named, may_be_type}
+use Rattle.type_parser.specs.Reading.{◌>>=◌, ◌<$>◌, each, alone, looks_named}
 use Rattle.type_parser.specs.Reading.{is_method, not_empty, no_names, one_name, with_name, field_of}
 use Rattle.type_parser.proofs.Closing.{marks_are, marks_same, marks_differ, differ_marks}
 use Rattle.type_parser.proofs.Closed.{alone-sound, opens-with, alone-complete}
@@ -31,11 +31,6 @@ use Rattle.type_parser.proofs.Pieces.{cuts}
 and-left : (a b : Bool) → (a && b) ≡ true → a ≡ true
 and-left true b e = refl
 and-left false b e = e
-
--- a name is no other mark
-ident-apart : (w : Word) (mark : Mark) → w.mark ≡ m.Ident → same_mark m.Ident mark ≡ false
-    → w.mark ≢ mark
-ident-apart w mark is apart e = differ_marks m.Ident mark apart (sym is ∙ e)
 
 -- what is in a piece already stays at its front
 grows : (mark : Mark) (depth : ℕ) (first : Word) (front ws : List Word)

@@ -1,6 +1,6 @@
 -- Steps that may give nothing.
 use Rattle.std.proofs.Common.{◌≡◌, ◌∙◌, ap, refl, Bool, true, false, cond, List, [], ◌∷◌}
-use Rattle.std.proofs.Common.{Option, Some, None, append-nil, Bor, unwrap_or, option_copied, inl}
+use Rattle.std.proofs.Common.{Option, Some, None, append-nil, inl}
 use Rattle.std.proofs.Common.{inr, ◌⊎◌}
 use Rattle.type_parser.specs.Reading.{◌>>=◌, ◌<$>◌, each, only, not_empty, with_front}
 use Rattle.go_ast.specs.Cutting.{Each}
@@ -72,11 +72,6 @@ module _ {A : Type 0} (f : List Word → Option A) where
   pub each-ends : (ps qs : List (List Word)) (found : List A)
       → each f ps ≡ with_front found (each f qs) → qs ≡ [] → each f ps ≡ Some found
   each-ends ps qs found so_far is = so_far ∙ (rw (is, append-nil) refl)
-
-pub copied-or : {A : Type 0} (o : Option (Bor A)) (d : Bor A)
-    → (unwrap_or o d).now ≡ unwrap_or (option_copied o) d.now
-copied-or None d = refl
-copied-or (Some x) d = refl
 
 pub not_empty-is : {A : Type 0} (xs : List A) → (xs ≡ [] → ⊥) → not_empty xs ≡ Some xs
 not_empty-is [] h = absurd (h refl)

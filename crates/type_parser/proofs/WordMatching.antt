@@ -1,6 +1,6 @@
 -- Words with their brackets matched.
 use Rattle.std.proofs.Common.{◌≡◌, ◌∙◌, ap, sym, refl, subst, ℕ, zero, suc, ◌+◌, ◌-◌, min}
-use Rattle.std.proofs.Common.{Bool, true, false, ◌&&◌, ◌==◌, List, [], ◌∷◌, ◌++◌, length}
+use Rattle.std.proofs.Common.{Bool, true, false, ◌&&◌, ◌==◌, List, [], ◌∷◌, length}
 use Rattle.std.proofs.Common.{take, drop, get_or, arith}
 use Rattle.std.proofs.lemmas.Bool.Decides.{nat_tests}
 use Rattle.std.proofs.lemmas.Grind.{common_steps}
@@ -26,10 +26,6 @@ pub plain-drop : (n : ℕ) (ws : List Matched) → plain (drop n ws) ≡ drop n 
 plain-drop zero ws = refl
 plain-drop (suc n) [] = refl
 plain-drop (suc n) (w ∷ ws) = plain-drop n ws
-
-pub plain-append : (ws vs : List Matched) → plain (ws ++ vs) ≡ plain ws ++ plain vs
-plain-append [] vs = refl
-plain-append (w ∷ ws) vs = ap (λ us. w.word ∷ us) (plain-append ws vs)
 
 -- an opening bracket closes none
 pub opens-not-closes : (mark : Mark) → opens mark ≡ true → closes mark ≡ false

@@ -451,9 +451,6 @@ exponent_split hexadecimal bytes within =
       place_passes (is_exponent_mark hexadecimal) bytes within,
     )
 
-no_exponent : spells_exponent [] ≡ false
-no_exponent = refl
-
 exponent_of : (hexadecimal : Bool) (bytes : List ℕ)
     → spells_exponent (drop (exponent_place hexadecimal bytes) bytes) ≡ true
     → (power : Exponent) × (is_exponent hexadecimal power ≡ true)
