@@ -1,6 +1,6 @@
 -- Cited by public clauses. What a count of faults says of how a call ended. A count stands still at
 -- the end of its type, 2 ^ 64 - 1.
-use Rattle.std.specs.Prelude.{◌≡◌, ◌↔◌, ℕ, ◌+◌, ◌-◌, ◌^◌, ◌≤◌, Result, OnErr, OnOk, IsErrOf, min}
+use Rattle.std.specs.Prelude.{◌≡◌, ◌↔◌, ℕ, ◌+◌, ◌-◌, ◌^◌, ◌≤◌, Result, OnErr, OnOk, IsErrOf, max, min}
 use Rattle.std.specs.IoError.{error_kind}
 use Rattle.std.specs.declared.io.Error.{Error}
 use Rattle.std.specs.declared.io.ErrorKind.TheVariants.{OutOfMemory}
@@ -11,15 +11,15 @@ use Rattle.plain_data.specs.declared.errors.IoFail.TheVariants as causes
 abbrev pub IsFailOf : Error → IoFail → Type 0
 IsFailOf error fail = (fail ≡ causes.NoMemory) ↔ (error_kind error ≡ OutOfMemory)
 
--- the count rose by n at least, or stands at its end
+-- the count rose by n, up to its end
 abbrev pub RoseBy : ℕ → ℕ → ℕ → Type 0
-RoseBy n before now = min (before + n) (2 ^ 64 - 1) ≤ now
+RoseBy n before now = now ≡ max before (min (before + n) (2 ^ 64 - 1))
 
--- the count rose, or stands at its end
+-- the count rose by one, or stands at its end
 abbrev pub Rose : ℕ → ℕ → Type 0
 Rose before now = RoseBy 1 before now
 
--- the count hasn't fallen; it rose where the call failed so, and else it is as it was
+-- the count hasn't fallen; it rose by one where the call failed so, and else it is as it was
 pub record IsCaused (before now : ℕ) (failed : Type 0) : Type 0 where
   pub later : before ≤ now
   pub rose : failed → Rose before now

@@ -33,7 +33,7 @@ pub IsReadSoFar-append : (scans : Option (List Contents)) (ps qs : List (List �
 IsReadSoFar-append scans ps qs xs ys a b c f g = record {
   same_paths = map-append (λ (s : List ℕ × Entry). s.0) xs ys ∙ ap (λ l. l ++ paths_of ys) f.same_paths ∙ ap (λ l. ps ++ l) g.same_paths;
   entries = entries-append scans xs ys f.entries g.entries;
-  few_unread = rw unread_count-append (RoseBy-add (unread_count xs) (unread_count ys) a b c f.few_unread g.few_unread);
+  failed_reads = rw unread_count-append (RoseBy-add (unread_count xs) (unread_count ys) a b c f.failed_reads g.failed_reads);
 }
 
 same_default : (xs : List (List ℕ)) (k : ℕ) (d e : List ℕ) → k < length xs → get_or xs k d ≡ get_or xs k e

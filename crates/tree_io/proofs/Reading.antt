@@ -16,9 +16,9 @@ use Rattle.tree_io.specs.declared.tree.Entry.{Entry}
 use Rattle.tree_io.specs.declared.tree.Entry.TheVariants.{Bytes, Large, Unread}
 
 -- before the first read
-pub IsReadSoFar-none : (scans : Option (List Contents)) (before now : ℕ) → before ≤ now → IsReadSoFar scans [] [] before now
-IsReadSoFar-none None before now later = record { same_paths = refl; entries = tt; few_unread = omega arith }
-IsReadSoFar-none (Some told) before now later = record { same_paths = refl; entries = All-nil (IsFrom (under_way told)); few_unread = omega arith }
+pub IsReadSoFar-none : (scans : Option (List Contents)) (count : ℕ) → IsReadSoFar scans [] [] count count
+IsReadSoFar-none None count = record { same_paths = refl; entries = tt; failed_reads = omega arith }
+IsReadSoFar-none (Some told) count = record { same_paths = refl; entries = All-nil (IsFrom (under_way told)); failed_reads = omega arith }
 
 paths_of-push : (sources : Sources) (path : List ℕ) (entry : Entry) → paths_of (sources ++ (path, entry) ∷ []) ≡ paths_of sources ++ path ∷ []
 paths_of-push [] path entry = refl
@@ -51,14 +51,14 @@ read_is_not_unread Unread readable = absurd readable
 
 -- after a read that gave an entry
 pub IsReadSoFar-read : (scans : Option (List Contents)) (paths : List (List ℕ)) (sources : Sources) (before middle now : ℕ) (path : List ℕ) (entry : Entry)
-    → IsReadSoFar scans paths sources before middle → middle ≤ now → IsKnown scans path → IsReadable entry → IsReadAs scans path entry
+    → IsReadSoFar scans paths sources before middle → now ≡ middle → IsKnown scans path → IsReadable entry → IsReadAs scans path entry
     → IsReadSoFar scans (paths ++ path ∷ []) (sources ++ (path, entry) ∷ []) before now
-IsReadSoFar-read scans paths sources before middle now path entry so_far later known readable read =
+IsReadSoFar-read scans paths sources before middle now path entry so_far kept known readable read =
     let count : unread_count (sources ++ (path, entry) ∷ []) ≡ unread_count sources = rw (unread_count-push sources path entry, read_is_not_unread entry readable) (omega arith) in
     record {
       same_paths = paths_of-push sources path entry ∙ ap (λ (ps : List (List ℕ)). ps ++ path ∷ []) so_far.same_paths;
       entries = entries-push scans sources path entry so_far.entries (next_read scans path entry known read);
-      few_unread = rw count (omega (arith, so_far.few_unread));
+      failed_reads = rw count (omega (arith, so_far.failed_reads));
     }
 
 -- after a read that failed
@@ -70,7 +70,7 @@ IsReadSoFar-failed scans paths sources before middle now path so_far rose =
     record {
       same_paths = paths_of-push sources path Unread ∙ ap (λ (ps : List (List ℕ)). ps ++ path ∷ []) so_far.same_paths;
       entries = entries-push scans sources path Unread so_far.entries (next_unread scans path);
-      few_unread = rw count (omega (arith, so_far.few_unread));
+      failed_reads = rw count (omega (arith, so_far.failed_reads));
     }
 
 some_either : (b : Bool) (bytes : List ℕ) (rest : Option (List ℕ)) → IsSome rest → IsSome (cond b (Some bytes) rest)

@@ -15,15 +15,15 @@ pub record IsReadSoFar (scans : Option (List Contents)) (paths : List (List ℕ)
     (before now : ℕ) : Type 0 where
   pub same_paths : paths_of sources ≡ paths
   pub entries : IfSome scans (λ told. All (IsFrom (under_way told)) sources)
-  pub few_unread : RoseBy (unread_count sources) before now
+  pub failed_reads : RoseBy (unread_count sources) before now
 
 -- sources that the scan under way gave, while the count of read faults went from before to now: a
--- set of sources, no more of them `Unread` than that count rose by; where scans are told they have
+-- set of sources, of which as many are `Unread` as that count rose by; where scans are told they have
 -- the paths of the scan under way, and what it has there or `Unread`
 pub record IsScannedFrom (scans : Option (List Contents)) (sources : Sources)
     (before now : ℕ) : Type 0 where
   pub valid : IsSources sources
-  pub few_unread : RoseBy (unread_count sources) before now
+  pub failed_reads : RoseBy (unread_count sources) before now
   pub same_paths : IsListed scans (paths_of sources)
   pub entries : IfSome scans (λ told. All (IsFrom (under_way told)) sources)
 

@@ -29,7 +29,7 @@ loop-path-preserved g c =
       so_far = rw (paths, sources) (elim c.match-read.branch [
         | in-Ok w ↦
             let told = subst (λ (p : List ℕ). IsReadAs now p w.in-Ok.entry) c.as_str.ensures.text w.in-Ok.ensures.told in
-            rw w.entry-is (IsReadSoFar-read scans _ _ _ _ _ path w.in-Ok.entry c.loop-path.invariant.so_far w.in-Ok.ensures.cause.later known w.in-Ok.ensures.readable
+            rw w.entry-is (IsReadSoFar-read scans _ _ _ _ _ path w.in-Ok.entry c.loop-path.invariant.so_far w.in-Ok.ensures.cause.kept known w.in-Ok.ensures.readable
             (IsReadAs-same scans now path w.in-Ok.entry c.loop-path.invariant.same_scans told))
         | in-Err-Failed w ↦ rw w.entry-is (IsReadSoFar-failed scans _ _ _ _ _ path c.loop-path.invariant.so_far (w.in-Err-Failed.ensures.cause.failed (cc)))
       ]);
