@@ -31,7 +31,7 @@ const SYSTEMS: [&str; 18] = [
     "zos",
 ];
 
-/// The architectures.
+/// The architectures (Go's `internal/syslist`).
 const ARCHITECTURES: [&str; 15] = [
     "386", "amd64", "arm", "arm64", "loong64", "mips", "mips64", "mips64le", "mipsle", "ppc64",
     "ppc64le", "riscv64", "s390x", "sparc64", "wasm",

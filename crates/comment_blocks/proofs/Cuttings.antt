@@ -11,7 +11,8 @@ use Rattle.comment_blocks.specs.Spans.{are_apart, begins_plain, behind_gap, gap,
 use Rattle.comment_blocks.specs.Spans.{indented_beyond, is_indented, is_piece, is_plain, IsCutting}
 use Rattle.comment_blocks.specs.Spans.{joined_to, lines_in, Piece, pieces_of, plain, reached}
 use Rattle.comment_blocks.specs.Spans.{with_line, with_plain}
-use Rattle.comment_blocks.specs.LineSteps.{one_further, reach}
+use Rattle.comment_blocks.specs.LineSteps.{reach}
+use Rattle.comment_blocks.specs.Spans.{one_further}
 
 abbrev pub Reach : Type 0
 Reach = List (List ℕ) × List Piece

@@ -1,11 +1,10 @@
 -- Cited by private clauses and proofs. The texts of lines, and how far an indented span goes.
--- `one_further` is cited by public clauses too, of the crate above.
 use Rattle.std.specs.Prelude.{ℕ, ◌+◌, ◌&&◌, Bool, true, false, not, Option, Some, None, List, []}
 use Rattle.std.specs.Prelude.{◌∷◌, ◌++◌, map, if◌then◌else◌, ◌==◌}
 use Rattle.std.specs.Borrow.{Bor}
 use Rattle.std.specs.List.{prefix_len}
 use Rattle.comment_blocks.specs.Texts.{is_blank}
-use Rattle.comment_blocks.specs.Spans.{gap, indented, is_empty, is_plain, Piece, plain}
+use Rattle.comment_blocks.specs.Spans.{gap, indented, is_empty, is_plain, one_further, Piece, plain}
 use Rattle.comment_blocks.specs.Lists.{item_of, item_paragraph, Marked, marker_of}
 use Rattle.comment_blocks.specs.Blocks.{indented_block, is_free, plain_beyond, plain_block}
 use Rattle.comment_blocks.specs.declared.block.Block.{Block}
@@ -14,10 +13,6 @@ use Rattle.comment_blocks.specs.declared.block.LinkDef.{LinkDef}
 
 abbrev pub texts : List (Bor (List ℕ)) → List (List ℕ)
 texts lines = map (λ (line : Bor (List ℕ)). line.now) lines
-
--- one line more than those that are reached, if any is
-abbrev pub one_further : ℕ → ℕ
-one_further n = if n == 0 then 0 else 1 + n
 
 -- how many lines go on an indented span: those up to the last indented one before a plain one
 abbrev pub reach : List (List ℕ) → ℕ

@@ -1,6 +1,6 @@
 -- Cited by public clauses. The cutting of lines into spans (Go Doc Comments, "Syntax").
 use Rattle.std.specs.Prelude.{◌≡◌, ℕ, Bool, true, false, ◌&&◌, not, List, [], ◌∷◌, if◌then◌else◌}
-use Rattle.std.specs.Prelude.{Option, Some, None}
+use Rattle.std.specs.Prelude.{◌+◌, ◌==◌, Option, Some, None}
 use Rattle.std.specs.List.{flat_map, list_all}
 use Rattle.comment_blocks.specs.Texts.{is_blank}
 
@@ -27,6 +27,10 @@ abbrev pub lines_in : Piece → List (List ℕ)
 lines_in gap = [] ∷ []
 lines_in (plain lines) = lines
 lines_in (indented lines) = lines
+
+-- one place further than those that are reached, if any is
+abbrev pub one_further : ℕ → ℕ
+one_further n = if n == 0 then 0 else 1 + n
 
 -- lines that go on an indented span: indented ones, and empty ones if an indented one follows
 abbrev pub goes_on : Bool → List (List ℕ) → Bool

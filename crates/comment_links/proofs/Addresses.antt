@@ -5,7 +5,7 @@ use Rattle.std.proofs.Common.{subst, ⊎_elim, arith, if◌then◌else◌, ◌==
 use Rattle.std.specs.List.{last_or, list_all, prefix_len}
 use Rattle.std.proofs.lemmas.Bool.{cases_Bool, cond-false, cond-true, and_from, and_parts}
 use Rattle.std.proofs.lemmas.Bool.{ne_eqb, not_from_false, not-true}
-use Rattle.comment_blocks.specs.LineSteps.{one_further}
+use Rattle.comment_blocks.specs.Spans.{one_further}
 use Rattle.comment_links.specs.Marks.{address_run, is_address_byte, is_address_end, is_final}
 use Rattle.comment_links.specs.InlinesOf.{address_len}
 

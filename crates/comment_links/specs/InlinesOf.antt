@@ -6,7 +6,7 @@ use Rattle.std.specs.Prelude.{Some, None}
 use Rattle.std.specs.List.{prefix_len, starts_with}
 use Rattle.comment_blocks.specs.declared.block.LinkDef.{LinkDef}
 use Rattle.comment_blocks.specs.Kinds.{is_in_brackets}
-use Rattle.comment_blocks.specs.LineSteps.{one_further}
+use Rattle.comment_blocks.specs.Spans.{one_further}
 use Rattle.comment_links.specs.declared.found.Found.{Found}
 use Rattle.comment_links.specs.declared.part.Inline.{Inline}
 use Rattle.comment_links.specs.declared.part.Inline.TheVariants as inlines
@@ -120,8 +120,8 @@ module _ (links : List LinkDef) (address_of : List ℕ → Option (List ℕ)) wh
 
   -- the inlines of a text behind another, without its first bytes that belong to a mark
   abbrev pub inlines_behind : List ℕ → List ℕ → ℕ → List Inline
-  inlines_behind before [] left = []
-  inlines_behind before (b ∷ text) (suc left) = inlines_behind (before ++ b ∷ []) text left
+  inlines_behind before [] covered = []
+  inlines_behind before (b ∷ text) (suc covered) = inlines_behind (before ++ b ∷ []) text covered
   inlines_behind before (b ∷ text) zero =
       with_found b (found_at before (b ∷ text))
       (inlines_behind (before ++ b ∷ []) text (left_of (found_at before (b ∷ text))))

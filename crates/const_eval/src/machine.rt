@@ -35,7 +35,7 @@ pub struct Machine {
     pub operand: Option<Value>,
 }
 
-/// What binds the operand tightest is applied to it: how many frames are left, and the value.
+/// What binds the operand tightest is applied to it: how many frames remain, and the value.
 fn arrive(frames: &[Frame<Value>], operand: Value) -> Option<(usize, Value)>
     ensures within { AreWithin frames.now result }
     ensures value { left_of frames.now result ≡ arrive values (reverse frames.now) operand }
@@ -56,7 +56,7 @@ fn arrive(frames: &[Frame<Value>], operand: Value) -> Option<(usize, Value)>
     Some((rest.len(), value))
 }
 
-/// The sum that waits for the product is added to it: how many frames are left, and the value.
+/// The sum that waits for the product is added to it: how many frames remain, and the value.
 fn settle(frames: &[Frame<Value>], operand: Value) -> Option<(usize, Value)>
     ensures within { AreWithin frames.now result }
     ensures value { left_of frames.now result ≡ settle values (reverse frames.now) operand }

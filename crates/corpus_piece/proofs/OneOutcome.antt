@@ -19,7 +19,7 @@ use Rattle.go_ast.specs.declared.token.Token.{Token}
 use Rattle.go_ast.specs.Files.{FileFault, SpellsFile}
 use Rattle.go_ast.specs.Position.{line_of}
 use Rattle.go_ast.specs.Reading.{Reads, ScanFault}
-use Rattle.go_scanner.specs.Answers.{IsFaulty, IsRead}
+use Rattle.go_scanner.specs.Results.{IsFaulty, IsRead}
 use Rattle.tree_io.specs.declared.tree.Entry.{Entry}
 use Rattle.tree_io.specs.declared.tree.Entry.TheVariants as entries
 use Rattle.corpus_piece.specs.declared.outcome.Outcome.{Outcome}

@@ -4,7 +4,7 @@ ghost use Rattle.std.specs.Prelude.{◌≡◌, ◌≤◌, IfOk, length};
 ghost use Rattle.go_ast.specs.declared.token.TheConstants.{MAX_SOURCE_BYTES};
 ghost use Rattle.go_ast.specs.Position.{line_starts};
 ghost use Rattle.go_ast.specs.Reading.{Reads};
-ghost use Rattle.go_scanner.specs.Answers.{AreInOrder};
+ghost use Rattle.go_scanner.specs.Results.{AreInOrder};
 ghost use Rattle.corpus_piece.specs.Outcomes.{IsOutcomeOf, IsOutcomeOfBytes, IsOutcomeOfTokens};
 ghost use Rattle.corpus_piece.specs.Refusals.{IsRefusalOf};
 

@@ -22,6 +22,9 @@ single_quote = 39
 abbrev pub full_stop : ℕ
 full_stop = 46
 
+abbrev pub slash : ℕ
+slash = 47
+
 abbrev pub digit_zero : ℕ
 digit_zero = 48
 

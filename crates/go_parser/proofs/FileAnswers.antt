@@ -6,8 +6,8 @@ use Rattle.go_ast.specs.declared.fault.Refused.{Refused}
 use Rattle.go_ast.specs.declared.fault.Refused.TheVariants as refusals
 use Rattle.go_ast.specs.declared.token.Token.{Token}
 use Rattle.go_ast.specs.Files.{FileFault, SpellsFile}
-use Rattle.go_parser.specs.Answers.{RefusedFor}
-use Rattle.go_scanner.specs.Answers.{IsRefusedAs}
+use Rattle.go_parser.specs.Results.{RefusedFor}
+use Rattle.go_scanner.specs.Results.{IsRefusedAs}
 use Rattle.go_parser.proofs.FileLaws.{file-not-fault, one-file, one-file-fault}
 
 pub found-is : (source : List ℕ) (tokens : List Token) (r : Result File Refused)

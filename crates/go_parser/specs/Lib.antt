@@ -1,5 +1,5 @@
 -- Cited by public clauses.
-pub mod Answers
+pub mod Results
 pub mod ChunkFacts
 -- Cited by private clauses and proofs.
 pub mod Bodies

@@ -8,10 +8,10 @@ ghost use Rattle.go_ast.specs.Files.{FileFault, SpellsFile};
 ghost use Rattle.go_ast.specs.Position.{line_of};
 ghost use Rattle.go_ast.specs.Reading.{Reads};
 ghost use Rattle.go_ast.specs.Tokens.{IsWithin};
-ghost use Rattle.go_parser.specs.Answers.{RefusedFor};
+ghost use Rattle.go_parser.specs.Results.{RefusedFor};
 ghost use Rattle.go_parser.specs.ChunkFacts.{AreChunks, IsChunk};
 ghost use Rattle.go_parser.specs.Parsing.{IsBadAt, IsParsed, words_in};
-ghost use Rattle.go_scanner.specs.Answers.{IsRefusedAs};
+ghost use Rattle.go_scanner.specs.Results.{IsRefusedAs};
 
 use crate::chunk::{Chunk, Cut};
 use crate::chunks::chunks_of;

@@ -17,7 +17,8 @@ use Rattle.go_scanner.specs.declared.shape.Shape.TheVariants.{Blank, LineEnd, Co
 use Rattle.go_scanner.specs.Classes.{is_ascii_letter, is_closing, is_lone, class_of}
 use Rattle.go_scanner.proofs.Marks.{operator_shape_of_length}
 use Rattle.go_scanner.specs.Shapes.{item_shape, comment_length, general_shape, number_shape}
-use Rattle.go_scanner.specs.Shapes.{begins_word, word_shape, word_at, text_shape, rune_shape}
+use Rattle.go_scanner.specs.FrontWords.{word_at}
+use Rattle.go_scanner.specs.Shapes.{begins_word, word_shape, text_shape, rune_shape}
 use Rattle.go_scanner.specs.Shapes.{raw_shape, operator_shape, marked_shape, spelling_shape}
 use Rattle.go_scanner.proofs.Standing.FirstBytes.{implies, by_table, letter_below, digit_below}
 use Rattle.go_scanner.proofs.Standing.FirstBytes.{begins_word-ascii, digit_begins, operator_mark}

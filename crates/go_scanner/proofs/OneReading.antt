@@ -13,7 +13,7 @@ use Rattle.go_ast.specs.Texts.{IsOpenString}
 use Rattle.go_ast.specs.Lexical.{Item, print_item, Stands, IsOpenComment}
 use Rattle.go_ast.specs.Reading.{Leads, Reads, IsStuckAt, ScanFault, line_ends, tokens_of}
 use Rattle.go_ast.specs.Reading.{comments_of}
-use Rattle.go_scanner.specs.Answers.{IsRead, IsFaulty}
+use Rattle.go_scanner.specs.Results.{IsRead, IsFaulty}
 use Rattle.go_scanner.specs.Shapes.{shape_of, shape_at, length_of}
 use Rattle.go_scanner.specs.Steps.{added_comments}
 use Rattle.go_scanner.proofs.Standing.Boundaries.{utf8_after}

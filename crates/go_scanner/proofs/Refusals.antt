@@ -6,7 +6,7 @@ use Rattle.go_ast.specs.declared.fault.Fault.{Fault}
 use Rattle.go_ast.specs.declared.fault.Refused.{Refused}
 use Rattle.go_ast.specs.declared.fault.Refused.TheVariants as refusals
 use Rattle.go_ast.specs.Reading.{Reads, ScanFault}
-use Rattle.go_scanner.specs.Answers.{IsRead, IsRefusedAs, RefusedFor}
+use Rattle.go_scanner.specs.Results.{IsRead, IsRefusedAs, RefusedFor}
 use Rattle.go_scanner.proofs.OneReading.{not_both, one_fault}
 
 -- a source that has a reading is refused for memory alone

@@ -13,7 +13,7 @@ use Rattle.go_ast.specs.Lexical.{spelled, print_item, print_spelling, Stands}
 use Rattle.go_ast.specs.Reading.{Leads, Reads, kind_of, tokens_at, tokens_of, takes_semicolon}
 use Rattle.go_ast.specs.Reading.{line_ends, token_of}
 use Rattle.go_ast.specs.Tokens.{IsWithin, HasSpelling, AreSpelled}
-use Rattle.go_scanner.specs.Answers.{AreInOrder}
+use Rattle.go_scanner.specs.Results.{AreInOrder}
 
 -- what stands in order from an offset does from an earlier one
 from_earlier : (tokens : List Token) (from earlier to : ℕ) → earlier ≤ from

@@ -13,7 +13,7 @@ use Rattle.std.proofs.lemmas.Bool.{cases_lt, or_cases}
 use Rattle.std.proofs.lemmas.List.Sums.{prefix_len_passes, prefix_len_stops, prefix_len-le-length}
 use Rattle.std.specs.Char.{is_ascii_digit}
 use Rattle.go_chars.specs.Identifiers.{is_letter_or_digit}
-use Rattle.go_scanner.specs.Shapes.{word_at}
+use Rattle.go_scanner.specs.FrontWords.{word_at}
 use Rattle.go_scanner.specs.Classes.{is_ascii_letter, is_word_byte}
 use Rattle.go_scanner.proofs.Standing.FirstBytes.{letter_below, digit_below}
 use Rattle.go_scanner.proofs.Standing.FirstBytes.{is_letter_or_digit-ascii}

@@ -1,5 +1,6 @@
 -- Cited by public clauses.
-pub mod Answers
+pub mod FrontWords
+pub mod Results
 pub mod LineIndex
 -- Cited by private clauses and proofs.
 pub mod Bases

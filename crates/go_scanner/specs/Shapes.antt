@@ -1,13 +1,13 @@
 -- Cited by private clauses and proofs. What stands at the front of some bytes, found by one test
 -- after another: the plain program beside the definition of the items of a source, which gives the
--- same. `word_at` is cited by public clauses too.
+-- same.
 use Rattle.std.specs.Prelude.{ℕ, ◌+◌, ◌-◌, Bool, true, false, ◌&&◌, not, List, [], ◌∷◌, length}
 use Rattle.std.specs.Prelude.{take, drop, if◌then◌else◌, ◌==◌, nat_eq, nat_lt, Option, Some, None}
 use Rattle.std.specs.Prelude.{option_map, slice_index, codes}
-use Rattle.std.specs.List.{prefix_len, starts_with, take_while}
-use Rattle.std.specs.Str.{chars, encode_utf8_all}
+use Rattle.std.specs.List.{prefix_len, starts_with}
+use Rattle.std.specs.Str.{chars}
 use Rattle.go_chars.specs.Letters.{is_letter}
-use Rattle.go_chars.specs.Identifiers.{is_among, is_letter_or_digit, keywords}
+use Rattle.go_chars.specs.Identifiers.{is_among, keywords}
 use Rattle.go_ast.specs.declared.token.TokenKind.{TokenKind}
 use Rattle.go_ast.specs.declared.token.TokenKind.TheVariants.{Ident, Keyword, Rune, Text, Operator}
 use Rattle.go_ast.specs.declared.token.TokenKind.TheVariants.{Semi}
@@ -18,6 +18,7 @@ use Rattle.go_ast.specs.Characters.{back_quote, byte_order_mark_bytes, is_white_
 use Rattle.go_ast.specs.Lexical.{Item, white_space, byte_order_mark, line_comment, general_comment}
 use Rattle.go_ast.specs.Lexical.{spelled, print_spelling, operators, number_run, begins_number}
 use Rattle.go_ast.specs.Reading.{kind_of, takes_semicolon, has_newline}
+use Rattle.go_scanner.specs.FrontWords.{word_at}
 use Rattle.go_scanner.specs.NumberBytes.{number_kind}
 use Rattle.go_scanner.specs.TextBytes.{text_length, rune_length, raw_length, comment_end}
 use Rattle.go_scanner.specs.TextBytes.{opens_string}
@@ -54,10 +55,6 @@ number_of n kind = Token kind true n
 unfoldable pub number_shape : List ℕ → Option Shape
 number_shape bytes =
     option_map (number_of (length (number_run bytes))) (number_kind (number_run bytes))
-
--- the letters and digits at the front
-unfoldable pub word_at : List ℕ → List ℕ
-word_at bytes = encode_utf8_all (take_while is_letter_or_digit (chars bytes))
 
 -- the first character is a letter
 abbrev pub begins_letter : List ℕ → Bool

@@ -1,6 +1,7 @@
 //! What stands at the front of some bytes.
 
 ghost use Rattle.std.specs.Prelude.{◌≡◌, ◌<◌, length, slice_index};
+ghost use Rattle.go_ast.specs.Characters.{full_stop, slash};
 ghost use Rattle.go_scanner.specs.Shapes.{item_shape, operator_shape};
 ghost use Rattle.go_scanner.specs.Classes.{class_of};
 
@@ -17,7 +18,7 @@ use go_ast::TokenKind;
 /// The comment or operator at the front, which begins with a slash.
 #[inline(always)]
 fn slash_shape(bytes: &[u8]) -> Option<Shape>
-    requires { slice_index bytes.now 0 ≡ 47 }
+    requires { slice_index bytes.now 0 ≡ slash }
     ensures { result ≡ item_shape bytes.now }
 {
     let second = byte_at(bytes, 1);
@@ -33,7 +34,7 @@ fn slash_shape(bytes: &[u8]) -> Option<Shape>
 /// The number or operator at the front, which begins with a full stop.
 #[inline(always)]
 fn point_shape(bytes: &[u8]) -> Option<Shape>
-    requires { slice_index bytes.now 0 ≡ 46 }
+    requires { slice_index bytes.now 0 ≡ full_stop }
     ensures { result ≡ item_shape bytes.now }
 {
     if begins_number(bytes) {

@@ -5,7 +5,7 @@ ghost use Rattle.go_ast.specs.declared.token.Token.{Token};
 ghost use Rattle.go_ast.specs.declared.token.Comment.{Comment};
 ghost use Rattle.go_ast.specs.declared.fault.Fault.{Fault};
 ghost use Rattle.go_ast.specs.Reading.{Reads, ScanFault};
-ghost use Rattle.go_scanner.specs.Answers.{IsRead, IsFaulty};
+ghost use Rattle.go_scanner.specs.Results.{IsRead, IsFaulty};
 
 /// Each source has exactly one reading or exactly one fault, as the clauses say for all lists of
 /// bytes. The call does nothing.

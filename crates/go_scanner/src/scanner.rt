@@ -10,7 +10,7 @@ ghost use Rattle.go_ast.specs.declared.token.TheConstants.{MAX_SOURCE_BYTES};
 ghost use Rattle.go_ast.specs.Position.{line_starts};
 ghost use Rattle.go_ast.specs.Reading.{Reads, ScanFault, token_of};
 ghost use Rattle.go_ast.specs.Tokens.{AreSpelled, IsWithin};
-ghost use Rattle.go_scanner.specs.Answers.{AreInOrder, IsRead, IsRefusedAs, RefusedFor};
+ghost use Rattle.go_scanner.specs.Results.{AreInOrder, IsRead, IsRefusedAs, RefusedFor};
 ghost use Rattle.go_scanner.specs.Classes.{is_blank};
 ghost use Rattle.go_scanner.specs.Steps.{comment_of, mark_length, pending_at, pending_of};
 ghost use Rattle.go_scanner.specs.Steps.{semicolon_at};
@@ -43,7 +43,7 @@ fn no_tokens(alloc: Global, length: usize) -> Mem<Vec<Token>>
 fn end_line(tokens: &mut Vec<Token>, pending: Option<u32>, ends: bool) -> Mem<Option<u32>>
     ensures tokens { OnOk result
         (tokens.new.items ≡ tokens.old.items ++ semicolon_at ends pending) }
-    ensures pending { IfOk result (λ left. left ≡ pending_at ends pending) }
+    ensures pending { IfOk result (λ after. after ≡ pending_at ends pending) }
 {
     match pending {
         Some(end) if ends => {

@@ -5,7 +5,8 @@ ghost use Rattle.std.specs.Str.{bytes_eq, chars};
 ghost use Rattle.std.specs.List.{prefix_len};
 ghost use Rattle.go_chars.specs.Identifiers.{is_among, is_letter_or_digit};
 ghost use Rattle.go_scanner.specs.Classes.{is_word_byte};
-ghost use Rattle.go_scanner.specs.Shapes.{begins_word, word_at, word_shape};
+ghost use Rattle.go_scanner.specs.FrontWords.{word_at};
+ghost use Rattle.go_scanner.specs.Shapes.{begins_word, word_shape};
 
 use crate::class::is_word_byte;
 use crate::shape::Shape;

@@ -20,7 +20,10 @@ code_of targets.List = codes_of.Ok
 code_of targets.Faults = codes_of.Ok
 code_of targets.BadTarget = codes_of.BadRequest
 code_of targets.BadVerb = codes_of.NotAllowed
-code_of _ = codes_of.NotFound
+code_of targets.NotFound = codes_of.NotFound
+code_of (targets.PackagePage path) = codes_of.NotFound
+code_of (targets.SourcePage path) = codes_of.NotFound
+code_of (targets.Search name page) = codes_of.NotFound
 
 -- the page of a target, of an edition
 abbrev pub page_of : Edition → Target → List ℕ
@@ -29,7 +32,10 @@ page_of edition targets.List =
 page_of edition targets.Faults = faults_page edition.sources.entries edition.tables.faults
 page_of edition targets.BadTarget = message_page (codes "Bad request")
 page_of edition targets.BadVerb = message_page (codes "Method not allowed")
-page_of edition _ = message_page (codes "Not found")
+page_of edition targets.NotFound = message_page (codes "Not found")
+page_of edition (targets.PackagePage path) = message_page (codes "Not found")
+page_of edition (targets.SourcePage path) = message_page (codes "Not found")
+page_of edition (targets.Search name page) = message_page (codes "Not found")
 
 -- what stands after the head: the page, and nothing for HEAD
 abbrev pub content_by : Verb → List ℕ → List ℕ

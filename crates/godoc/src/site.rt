@@ -19,7 +19,8 @@ fn code_of(target: &Target) -> Code
         Target::List | Target::Faults => Code::Ok,
         Target::BadTarget => Code::BadRequest,
         Target::BadVerb => Code::NotAllowed,
-        _ => Code::NotFound,
+        Target::NotFound | Target::PackagePage(_) | Target::SourcePage(_) | Target::Search { .. } =>
+            Code::NotFound,
     }
 }
 
@@ -32,7 +33,8 @@ fn page_of(alloc: Global, corpus: &Corpus, target: &Target) -> Mem<Vec<u8>>
         Target::Faults => faults_page(alloc, corpus),
         Target::BadTarget => message_page(alloc, "Bad request"),
         Target::BadVerb => message_page(alloc, "Method not allowed"),
-        _ => message_page(alloc, "Not found"),
+        Target::NotFound | Target::PackagePage(_) | Target::SourcePage(_) | Target::Search { .. } =>
+            message_page(alloc, "Not found"),
     }
 }
 

@@ -12,7 +12,7 @@ use Rattle.go_ast.specs.contracts.token.TokenKind.{the_type}
 use Rattle.go_ast.specs.Tokens.{is_ident}
 use Rattle.go_ast.specs.Characters.{newline}
 use Rattle.go_ast.specs.Position.{line_of, line_starts, offsets_after_newlines}
-use Rattle.go_scanner.specs.Answers.{AreInOrder}
+use Rattle.go_scanner.specs.Results.{AreInOrder}
 use Rattle.go_scanner.proofs.ScanLaws.{position_is}
 use Rattle.ident_index.specs.Naming.{Name}
 use Rattle.ident_index.specs.Places.{AreLinesTo, AreNamesBefore}

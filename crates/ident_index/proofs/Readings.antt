@@ -14,7 +14,8 @@ use Rattle.go_scanner.specs.declared.shape.Shape.TheVariants as shapes
 use Rattle.go_ast.specs.Lexical.{Spelling, identifier, keyword, operator, integer, float, imaginary, rune, text, raw_text, semicolon, Item, white_space, byte_order_mark, line_comment, general_comment, spelled, begins_number, print_item, print_spelling, Stands, IsSpelled}
 use Rattle.go_ast.specs.Reading.{Leads, Reads, kind_of, line_ends, takes_semicolon, token_of, tokens_at, tokens_of}
 use Rattle.go_ast.specs.Tokens.{is_ident, text_of}
-use Rattle.go_scanner.specs.Shapes.{length_of, word_at, word_shape}
+use Rattle.go_scanner.specs.FrontWords.{word_at}
+use Rattle.go_scanner.specs.Shapes.{length_of, word_shape}
 use Rattle.go_scanner.proofs.ScanLaws.{utf8_after}
 use Rattle.go_scanner.proofs.ScanLaws.{begins_word-identifier}
 use Rattle.go_scanner.proofs.ScanLaws.{SpelledAt-IsSpelled, whole_run}

@@ -7,7 +7,7 @@ use Rattle.std.specs.Ordering.{nat_cmp}
 use Rattle.std.specs.Cmp.Lexicographic.{slice_cmp}
 use Rattle.std.specs.declared.cmp.Ordering.TheVariants.{Less}
 use Rattle.std.specs.Str.{bytes_eq, IsCharBoundary}
-use Rattle.go_scanner.specs.Shapes.{word_at}
+use Rattle.go_scanner.specs.FrontWords.{word_at}
 use Rattle.ident_index.specs.declared.hit.Hit.{Hit}
 use Rattle.ident_index.specs.declared.hit.HitFile.{HitFile}
 

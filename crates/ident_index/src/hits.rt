@@ -4,7 +4,7 @@ ghost use Rattle.std.specs.Prelude.{◌≡◌, ◌<◌, ◌≤◌, ℕ, IfOk, le
 ghost use Rattle.std.specs.List.Sorted.{IsNonDecreasingBy};
 ghost use Rattle.go_ast.specs.declared.token.TheConstants.{MAX_SOURCE_BYTES};
 ghost use Rattle.go_ast.specs.Position.{line_starts};
-ghost use Rattle.go_scanner.specs.Answers.{AreInOrder};
+ghost use Rattle.go_scanner.specs.Results.{AreInOrder};
 ghost use Rattle.ident_index.specs.Hits.{hits_of, kind_at};
 ghost use Rattle.ident_index.specs.Naming.{Name, names_of_file};
 ghost use Rattle.ident_index.specs.Places.{AreLinesTo, AreNamesBefore};

@@ -213,8 +213,11 @@ fn trees_in_folders(rt: HostRuntime) -> Result<(), Fail> {
     // Its first byte can't be read.
     symlink(&rt, "/proc/self/mem", "tree/o.go")?;
     symlink(&rt, "missing", "tree/p.go")?;
+    // Nobody may open it for reading.
+    symlink(&rt, "/proc/sys/vm/compact_memory", "tree/q.go")?;
+    symlink(&rt, "/dev/null", "tree/r.go")?;
     let mut tree = FsTree::new(rt.clone()?, String::from_str(alloc, "tree")?);
-    let wanted = "a.go 3;a/b/c.go 2;b.go 1;d.go/e.go 10;l.go 1;m.go -;o.go -;p.go -;";
+    let wanted = "a.go 3;a/b/c.go 2;b.go 1;d.go/e.go 10;l.go 1;m.go -;o.go -;p.go -;q.go -;r.go -;";
     assert_eq!(rt; shown(alloc, &mut tree)?.as_str(), wanted);
 
     let mut missing = FsTree::new(rt.clone()?, String::from_str(alloc, "no/tree")?);

@@ -14,7 +14,8 @@ use Rattle.go_ast.specs.Characters.{Begins}
 use Rattle.go_ast.specs.Lexical.{Spelling, identifier, keyword, operator, integer, float}
 use Rattle.go_ast.specs.Lexical.{imaginary, rune, text, raw_text, semicolon, spelled}
 use Rattle.go_ast.specs.Lexical.{print_spelling, IsSpelling, IsLongest, begins_number}
-use Rattle.go_scanner.specs.Shapes.{shape_of, word_shape, word_at, begins_word, begins_letter}
+use Rattle.go_scanner.specs.FrontWords.{word_at}
+use Rattle.go_scanner.specs.Shapes.{shape_of, word_shape, begins_word, begins_letter}
 use Rattle.go_scanner.specs.Classes.{is_ascii_letter}
 use Rattle.go_scanner.proofs.Standing.Lists.{same_fronts, split_at, take_while-past}
 use Rattle.go_scanner.proofs.Standing.Lists.{list_all-take_prefix_len, encode_utf8_all-ascii}

@@ -9,7 +9,8 @@ use Rattle.go_ast.specs.Lexical.{imaginary, rune, text, raw_text, semicolon, spe
 use Rattle.go_ast.specs.Lexical.{print_spelling, IsSpelling, begins_number}
 use Rattle.go_scanner.specs.declared.shape.Shape.{Shape}
 use Rattle.go_scanner.specs.declared.shape.Shape.TheVariants.{Token}
-use Rattle.go_scanner.specs.Shapes.{shape_of, begins_word, word_at, word_shape, number_shape}
+use Rattle.go_scanner.specs.FrontWords.{word_at}
+use Rattle.go_scanner.specs.Shapes.{shape_of, begins_word, word_shape, number_shape}
 use Rattle.go_scanner.specs.Shapes.{text_shape, rune_shape, raw_shape, operator_shape}
 use Rattle.go_scanner.specs.Shapes.{marked_shape, spelling_shape}
 use Rattle.go_scanner.proofs.Standing.Lists.{by_if}

@@ -1,7 +1,7 @@
 use Rattle.std.proofs.Common.{◌≡◌, ap, sym, subst, ◌<◌, ◌≤◌, All, IfErr, IfOk, length, arith}
 use Rattle.go_ast.specs.Files.{SpellsFile}
 use Rattle.go_ast.specs.Tokens.{IsWithin}
-use Rattle.go_parser.specs.Answers.{RefusedFor}
+use Rattle.go_parser.specs.Results.{RefusedFor}
 use Rattle.go_parser.proofs.FileAnswers.{found-is, refused-is}
 use Rattle.go_parser.proofs.TokenCounts.{few_tokens}
 use Rattle.go_scanner.proofs.ScanLaws.{within}

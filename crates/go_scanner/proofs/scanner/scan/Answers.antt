@@ -3,7 +3,7 @@ use Rattle.std.proofs.lemmas.Result.{err_from_is_err_and}
 use Rattle.go_ast.specs.declared.fault.Fault.TheVariants as faults
 use Rattle.go_ast.specs.declared.fault.Refused.{Refused}
 use Rattle.go_ast.specs.Reading.{Reads}
-use Rattle.go_scanner.specs.Answers.{RefusedFor}
+use Rattle.go_scanner.specs.Results.{RefusedFor}
 use Rattle.go_scanner.proofs.OneReading.{one_reading, one_fault, not_both}
 use Rattle.go_scanner.proofs.Refusals.{only_memory, refused_as, unread}
 use Rattle.go_scanner.proofs.Spans.{spans, within, spellings}

@@ -1,7 +1,7 @@
 use Rattle.std.proofs.Common.{◌≡◌, ◌-◌, length, take, sym, ◌∙◌, ap, subst, arith}
 use Rattle.std.specs.Str.{IsCharBoundary}
 use Rattle.std.proofs.lemmas.List.{take_at}
-use Rattle.go_scanner.specs.Shapes.{word_at}
+use Rattle.go_scanner.specs.FrontWords.{word_at}
 use Rattle.go_scanner.proofs.Standing.Names.{front_boundary, front_split}
 use Rattle.go_scanner.proofs.word.front_word.Goals as goal
 

@@ -1,5 +1,5 @@
 use Rattle.std.proofs.Common.{◌≡◌, ℕ, drop, length, map, take}
-use Rattle.go_scanner.specs.Answers.{AreInOrder}
+use Rattle.go_scanner.specs.Results.{AreInOrder}
 use Rattle.ident_index.specs.Hits.{hit_of, identifiers}
 use Rattle.ident_index.specs.Places.{AreLinesTo, AreNamesBefore}
 use Rattle.ident_index.proofs.hits.hits_of.Given as goal
