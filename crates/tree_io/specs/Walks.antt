@@ -1,10 +1,11 @@
--- Cited by private clauses and proofs. What a walk through a folder does at an entry. The
--- project's own.
-use Rattle.std.specs.Prelude.{◌≡◌, ℕ, List, [], ◌∷◌, ◌++◌, map, string_bytes}
+-- Cited by private clauses and proofs. How far a walk through a folder may have come, and what it
+-- does at an entry. The project's own.
+use Rattle.std.specs.Prelude.{◌≡◌, ℕ, ◌+◌, ◌-◌, ◌≤◌, List, [], ◌∷◌, ◌++◌, map, All, string_bytes, vec_len}
 use Rattle.std.specs.Fs.{IsDir}
 use Rattle.std.specs.declared.fs.attrs.FileType.{FileType}
 use Rattle.tree_io.specs.Path.{Belongs}
 use Rattle.tree_io.specs.declared.walk.Walk.{Walk}
+use Rattle.tree_io.specs.declared.walk.TheConstants.{MAX_ENTRIES}
 
 -- the folders that are still to be walked, and the paths found so far
 abbrev pub folders_in : Walk → List (List ℕ)
@@ -12,6 +13,25 @@ folders_in walk = map string_bytes walk.folders.items
 
 abbrev pub paths_in : Walk → List (List ℕ)
 paths_in walk = map string_bytes walk.paths.items
+
+-- the paths found so far belong
+abbrev pub FindsSources : Walk → Type 0
+FindsSources walk = All (λ path. Belongs (string_bytes path)) walk.paths.items
+
+-- a walk has met no more entries than one may, and the paths that it found belong
+pub record IsWalk (walk : Walk) : Type 0 where
+  pub met : walk.met ≤ MAX_ENTRIES
+  pub belong : FindsSources walk
+
+-- the most folders that a walk may still read: those it has found, and one for each entry that it
+-- may still meet
+abbrev pub most_ahead : Walk → ℕ
+most_ahead walk = vec_len walk.folders + (MAX_ENTRIES - walk.met)
+
+-- a walk went on, and has no more ahead than it had
+pub record GoesOn (old new : Walk) : Type 0 where
+  pub walk : IsWalk new
+  pub nearer : most_ahead new ≤ most_ahead old
 
 -- a walk gained this folder, this path, or nothing, and no more than that
 pub record GainsFolder (path : List ℕ) (old new : Walk) : Type 0 where

@@ -1,12 +1,12 @@
 //! The walk through a real folder.
 
-ghost use Rattle.std.specs.Prelude.{◌≡◌, ◌≢◌, ◌+◌, ◌-◌, [], ◌≤◌, ◌<◌, ◌↔◌, All, IfErr, IfOk, IsErrAnd, IsOk, IsOkAnd, IsTrue, MatchResult, OnOk, Err, false, map, string_bytes, vec_len};
+ghost use Rattle.std.specs.Prelude.{◌≡◌, ◌≢◌, ◌+◌, [], ◌≤◌, ◌<◌, ◌↔◌, All, IfErr, IfOk, IsErrAnd, IsOk, IsOkAnd, IsTrue, MatchResult, OnOk, Err, false, map, string_bytes, vec_len};
 ghost use Rattle.std.specs.Fs.{IsDir, dir_entry_name};
 ghost use Rattle.std.specs.declared.fs.attrs.FileType.{FileType};
 ghost use Rattle.plain_data.specs.Causes.{IsFailOf};
 ghost use Rattle.tree_io.specs.Path.{Belongs, IsRising, MayLead};
 ghost use Rattle.tree_io.specs.Places.{joined};
-ghost use Rattle.tree_io.specs.Walks.{GainsFolder, GainsNothing, GainsPath, Meets};
+ghost use Rattle.tree_io.specs.Walks.{FindsSources, GainsFolder, GainsNothing, GainsPath, GoesOn, IsWalk, Meets};
 
 use crate::path::{belongs, has_path_bytes, is_source_folder};
 use crate::place::{full_path, join};
@@ -81,12 +81,8 @@ fn walk_folder<R: Files + AllocGlobal + Clone + Drop>(
     folder: &str,
     walk: &mut Walk,
 ) -> Result<(), IoFail>
-    requires met { walk.old.met ≤ MAX_ENTRIES }
-    requires belong { All (λ path. Belongs (string_bytes path)) walk.old.paths.items }
-    ensures met { OnOk result (walk.new.met ≤ MAX_ENTRIES) }
-    ensures belong { OnOk result (All (λ path. Belongs (string_bytes path)) walk.new.paths.items) }
-    ensures nearer { OnOk result (vec_len walk.new.folders + (MAX_ENTRIES - walk.new.met)
-        ≤ vec_len walk.old.folders + (MAX_ENTRIES - walk.old.met)) }
+    requires walk { IsWalk walk.old }
+    ensures walk { OnOk result (GoesOn walk.old walk.new) }
 {
     let whole = full_path(alloc, root, folder)?;
     visit_all(alloc, folder, fs::read_dir(rt, whole.as_str()), walk)
@@ -99,13 +95,9 @@ pub(crate) fn visit_all<R: Files + Clone + Drop>(
     entries: io::Result<ReadDir<R, Global>>,
     walk: &mut Walk,
 ) -> Result<(), IoFail>
-    requires met { walk.old.met ≤ MAX_ENTRIES }
-    requires belong { All (λ path. Belongs (string_bytes path)) walk.old.paths.items }
+    requires walk { IsWalk walk.old }
     ensures unread { IfErr entries (λ error. IsErrAnd result (IsFailOf error)) }
-    ensures met { OnOk result (walk.new.met ≤ MAX_ENTRIES) }
-    ensures belong { OnOk result (All (λ path. Belongs (string_bytes path)) walk.new.paths.items) }
-    ensures nearer { OnOk result (vec_len walk.new.folders + (MAX_ENTRIES - walk.new.met)
-        ≤ vec_len walk.old.folders + (MAX_ENTRIES - walk.old.met)) }
+    ensures walk { OnOk result (GoesOn walk.old walk.new) }
 {
     for entry in entries? {
         visit(alloc, folder, entry, walk)?;
@@ -120,8 +112,7 @@ fn visit<R: Files + Drop>(
     entry: io::Result<DirEntry<R, Global>>,
     walk: &mut Walk,
 ) -> Result<(), IoFail>
-    requires met { walk.old.met ≤ MAX_ENTRIES }
-    requires belong { All (λ path. Belongs (string_bytes path)) walk.old.paths.items }
+    requires walk { IsWalk walk.old }
     ensures error { IfErr entry (λ error. IsErrAnd result (IsFailOf error)) }
     ensures full { IsOk entry → walk.old.met ≡ MAX_ENTRIES → result ≡ Err IoFail.Failed }
     ensures passed_over { IfOk entry (λ entry. walk.old.met < MAX_ENTRIES
@@ -129,10 +120,7 @@ fn visit<R: Files + Drop>(
     ensures meets { IfOk entry (λ entry. MayLead (dir_entry_name entry)
         → OnOk result ((kind : FileType)
         × Meets (joined folder.now (dir_entry_name entry)) kind walk.old walk.new)) }
-    ensures met { OnOk result (walk.new.met ≤ MAX_ENTRIES) }
-    ensures belong { OnOk result (All (λ path. Belongs (string_bytes path)) walk.new.paths.items) }
-    ensures nearer { OnOk result (vec_len walk.new.folders + (MAX_ENTRIES - walk.new.met)
-        ≤ vec_len walk.old.folders + (MAX_ENTRIES - walk.old.met)) }
+    ensures walk { OnOk result (GoesOn walk.old walk.new) }
 {
     let entry = entry?;
     visit_named(alloc, folder, entry.file_name(), entry.file_type(), walk)
@@ -148,8 +136,7 @@ pub(crate) fn visit_named(
     kind: io::Result<FileType>,
     walk: &mut Walk,
 ) -> Result<(), IoFail>
-    requires met { walk.old.met ≤ MAX_ENTRIES }
-    requires belong { All (λ path. Belongs (string_bytes path)) walk.old.paths.items }
+    requires walk { IsWalk walk.old }
     ensures full { walk.old.met ≡ MAX_ENTRIES → result ≡ Err IoFail.Failed }
     ensures no_kind { walk.old.met < MAX_ENTRIES → MayLead name.now
         → IfErr kind (λ error. IsErrAnd result (IsFailOf error)) }
@@ -159,8 +146,7 @@ pub(crate) fn visit_named(
     ensures meets { MayLead name.now → IfOk kind (λ kind.
         OnOk result (Meets (joined folder.now name.now) kind walk.old walk.new)) }
     ensures met { OnOk result (walk.new.met ≡ walk.old.met + 1) }
-    ensures in_reach { OnOk result (walk.new.met ≤ MAX_ENTRIES) }
-    ensures belong { OnOk result (All (λ path. Belongs (string_bytes path)) walk.new.paths.items) }
+    ensures walk { OnOk result (IsWalk walk.new) }
     ensures folders { OnOk result (vec_len walk.new.folders ≤ vec_len walk.old.folders + 1) }
 {
     if walk.met == MAX_ENTRIES {
@@ -192,14 +178,14 @@ pub(crate) fn is_folder(kind: io::Result<FileType>) -> Result<bool, IoFail>
 
 /// A folder is walked later, and a path that belongs is found.
 fn meet(path: String, is_folder: bool, walk: &mut Walk) -> Mem<()>
-    requires belong { All (λ path. Belongs (string_bytes path)) walk.old.paths.items }
+    requires belong { FindsSources walk.old }
     ensures folder { IsTrue is_folder
         → OnOk result (GainsFolder (string_bytes path) walk.old walk.new) }
     ensures file { is_folder ≡ false → Belongs (string_bytes path)
         → OnOk result (GainsPath (string_bytes path) walk.old walk.new) }
     ensures other { is_folder ≡ false → ¬ Belongs (string_bytes path)
         → GainsNothing walk.old walk.new }
-    ensures belong { OnOk result (All (λ path. Belongs (string_bytes path)) walk.new.paths.items) }
+    ensures belong { OnOk result (FindsSources walk.new) }
     ensures same_met { walk.new.met ≡ walk.old.met }
     ensures folders { vec_len walk.new.folders ≤ vec_len walk.old.folders + 1 }
 {
