@@ -1,6 +1,7 @@
 -- Cited by private clauses and proofs. What one step of a session did. The project's own.
 use Rattle.std.specs.Prelude.{◌≡◌, ℕ, List, Option, Result, Ok, Err}
 use Rattle.link_io.specs.Streams.{Adds, AddsPart}
+use Rattle.plain_data.specs.Causes.{IsCaused}
 use Rattle.session.specs.declared.session_end.SessionEnd.{SessionEnd}
 use Rattle.session.specs.declared.session_end.SessionEnd.TheVariants as ends
 use Rattle.session.specs.declared.session_end.Stop.{Stop}
@@ -24,3 +25,23 @@ Writes reply held held_after (Ok _) = Adds held reply held_after
 Writes reply held held_after (Err stops.WriteFault) = AddsPart held reply held_after
 Writes reply held held_after (Err stops.NoMemory) = held_after ≡ held
 Writes reply held held_after (Err stops.ReadFault) = ⊥
+
+-- What a call that only writes did to a link, but for the bytes that it wrote: where it failed so,
+-- the count of failed writes rose, or stands at its end, and else this count is as it was. It left
+-- the bytes that remain, the count of failed reads and the references as they were.
+pub record OnlyWrites {Link : Type 0} (bytes : Link → Option (List ℕ)) (reads writes : Link → ℕ)
+    (references : Link → List ℕ) (old new : Link) (failed : Type 0) : Type 0 where
+  pub write_faults : IsCaused (writes old) (writes new) failed
+  pub remaining : bytes new ≡ bytes old
+  pub read_faults : reads new ≡ reads old
+  pub same_references : references new ≡ references old
+
+-- What a call that only reads did to a link, but for the bytes that it read: where it failed so,
+-- the count of failed reads rose, or stands at its end, and else this count is as it was. It left
+-- the bytes that are held, the count of failed writes and the references as they were.
+pub record OnlyReads {Link : Type 0} (bytes : Link → Option (List ℕ)) (reads writes : Link → ℕ)
+    (references : Link → List ℕ) (old new : Link) (failed : Type 0) : Type 0 where
+  pub read_faults : IsCaused (reads old) (reads new) failed
+  pub held : bytes new ≡ bytes old
+  pub write_faults : writes new ≡ writes old
+  pub same_references : references new ≡ references old

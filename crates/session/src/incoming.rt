@@ -1,12 +1,12 @@
 //! The requests that come in over a link.
 
-ghost use Rattle.std.specs.Prelude.{◌≡◌, ℕ, ◌+◌, ◌<◌, ◌≤◌, ◌⊎◌, List, [], ◌++◌, length, false, IfOk, IfSome, OnOk, OnErr, IsTrue, Ok};
-ghost use Rattle.plain_data.specs.Causes.{HasCause, IsCaused};
+ghost use Rattle.std.specs.Prelude.{◌≡◌, ℕ, ◌+◌, ◌<◌, ◌≤◌, ◌⊎◌, List, [], ◌++◌, length, false, IfOk, IfSome, OnOk, OnErr, IsErr, IsTrue, Ok};
 ghost use Rattle.http_wire.specs.declared.heads.Next.TheVariants as answers;
 ghost use Rattle.http_wire.specs.declared.heads.TheConstants.{MAX_REST_BYTES};
 ghost use Rattle.http_wire.specs.declared.request.TheConstants.{MAX_HEAD_BYTES};
 ghost use Rattle.link_io.specs.Streams.{Takes};
 ghost use Rattle.session.specs.Incoming.{Hears, KnowsEnd};
+ghost use Rattle.session.specs.Steps.{OnlyReads};
 
 use crate::session_end::Stop;
 use http_wire::{Heads, Next};
@@ -30,12 +30,8 @@ fn read_piece<L: Link>(link: &mut L, heads: &mut Heads) -> Result<(), Failed>
     ensures end { KnowsEnd (L.remaining link.new) heads.new }
     ensures failed { OnErr result
         ((heads.new ≡ heads.old) × (L.remaining link.new ≡ L.remaining link.old)) }
-    ensures cause { HasCause (L.read_faults link.old) (L.read_faults link.new) result }
-
-    // The other side of the link stays.
-    ensures held { L.held link.new ≡ L.held link.old }
-    ensures write_faults { L.write_faults link.new ≡ L.write_faults link.old }
-    ensures same_references { L.Source.references link.new ≡ L.Source.references link.old }
+    ensures only_reads { OnlyReads L.held L.read_faults L.write_faults L.Source.references
+        link.old link.new (IsErr result) }
 {
     let mut piece = [0; PIECE];
     let count = link.read(&mut piece)?;
@@ -59,13 +55,8 @@ pub(crate) fn next_head<L: Link>(
     ensures decided { result ≡ Ok answers.More → ⊥ }
     ensures end { KnowsEnd (L.remaining link.old) heads.old
         → KnowsEnd (L.remaining link.new) heads.new }
-
-    // Why a read failed, and what stays of the link.
-    ensures read_faults { IsCaused (L.read_faults link.old) (L.read_faults link.new)
-        (result ≡ Err Stop.ReadFault) }
-    ensures held { L.held link.new ≡ L.held link.old }
-    ensures write_faults { L.write_faults link.new ≡ L.write_faults link.old }
-    ensures same_references { L.Source.references link.new ≡ L.Source.references link.old }
+    ensures only_reads { OnlyReads L.held L.read_faults L.write_faults L.Source.references
+        link.old link.new (result ≡ Err Stop.ReadFault) }
 {
     loop {
         match heads.next(alloc)? {

@@ -6,7 +6,7 @@ ghost use Rattle.plain_data.specs.Causes.{IsCaused};
 ghost use Rattle.http_wire.specs.Reply.{bad_reply_bytes};
 ghost use Rattle.publication.specs.View.{OnlySees};
 ghost use Rattle.session.specs.Session.{ServesLink, Session};
-ghost use Rattle.session.specs.Steps.{Writes, end_by};
+ghost use Rattle.session.specs.Steps.{OnlyWrites, Writes, end_by};
 ghost use Rattle.session.specs.Text.{is_last};
 
 use crate::incoming::next_head;
@@ -110,11 +110,8 @@ fn answer<L: Link, E, R: Responder<E>>(
     ensures writes { Writes
         (R.reply_of site.now entered.now.number (arc_value entered.now.edition) request.now last)
         (L.held link.old) (L.held link.new) result }
-    ensures write_faults { IsCaused (L.write_faults link.old) (L.write_faults link.new)
-        (result ≡ Err Stop.WriteFault) }
-    ensures remaining { L.remaining link.new ≡ L.remaining link.old }
-    ensures read_faults { L.read_faults link.new ≡ L.read_faults link.old }
-    ensures same_references { L.Source.references link.new ≡ L.Source.references link.old }
+    ensures only_writes { OnlyWrites L.remaining L.read_faults L.write_faults L.Source.references
+        link.old link.new (result ≡ Err Stop.WriteFault) }
 {
     let reply = site.reply(alloc, entered.number, &entered.edition, request, last)?;
     write_reply(link, &reply)
@@ -123,11 +120,8 @@ fn answer<L: Link, E, R: Responder<E>>(
 // Writes the bad reply.
 fn refuse<L: Link>(alloc: Global, link: &mut L) -> Result<(), Stop>
     ensures writes { Writes bad_reply_bytes (L.held link.old) (L.held link.new) result }
-    ensures write_faults { IsCaused (L.write_faults link.old) (L.write_faults link.new)
-        (result ≡ Err Stop.WriteFault) }
-    ensures remaining { L.remaining link.new ≡ L.remaining link.old }
-    ensures read_faults { L.read_faults link.new ≡ L.read_faults link.old }
-    ensures same_references { L.Source.references link.new ≡ L.Source.references link.old }
+    ensures only_writes { OnlyWrites L.remaining L.read_faults L.write_faults L.Source.references
+        link.old link.new (result ≡ Err Stop.WriteFault) }
 {
     let reply = bad_reply(alloc)?;
     write_reply(link, &reply)
@@ -136,11 +130,8 @@ fn refuse<L: Link>(alloc: Global, link: &mut L) -> Result<(), Stop>
 // Writes a reply that was made whole.
 fn write_reply<L: Link>(link: &mut L, reply: &[u8]) -> Result<(), Stop>
     ensures writes { Writes reply.now (L.held link.old) (L.held link.new) result }
-    ensures write_faults { IsCaused (L.write_faults link.old) (L.write_faults link.new)
-        (result ≡ Err Stop.WriteFault) }
-    ensures remaining { L.remaining link.new ≡ L.remaining link.old }
-    ensures read_faults { L.read_faults link.new ≡ L.read_faults link.old }
-    ensures same_references { L.Source.references link.new ≡ L.Source.references link.old }
+    ensures only_writes { OnlyWrites L.remaining L.read_faults L.write_faults L.Source.references
+        link.old link.new (result ≡ Err Stop.WriteFault) }
 {
     match write_whole(link, reply) {
         Ok(()) => Ok(()),

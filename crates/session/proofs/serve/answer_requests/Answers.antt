@@ -17,7 +17,7 @@ pub returns-in_err-request-clause-session : goal.returns-in_err-request-clause-s
 returns-in_err-request-clause-session g c =
     let p = err_from_is_err_and c.from_residual-in_err-request.result
     c.from_residual-in_err-request.ensures.1 in
-    rw (p.1, p.2, c.next_head.ensures.held)
+    rw (p.1, p.2, c.next_head.ensures.only_reads.held)
     (Session-unheard _ _ _ _ _ _ _ _ _ _ _ c.loop-answered.invariant.progress (omega arith) _
     c.in_err-request.ensures.hears (c.next_head.ensures.end c.loop-answered.invariant.end))
 
@@ -26,25 +26,25 @@ returns-in_err-refuse-in-Bad-clause-session g c =
     let hears = rw c.in-Bad.is at c.in_ok-request.ensures.hears in
     let p = err_from_is_err_and c.from_residual-in_err-refuse-in-Bad.result
     c.from_residual-in_err-refuse-in-Bad.ensures.1 in
-    rw (p.1, p.2, c.refuse.ensures.remaining)
+    rw (p.1, p.2, c.refuse.ensures.only_writes.remaining)
     (Session-unrefused _ _ _ _ _ _ _ _ _ _ _ _ c.loop-answered.invariant.progress
     (omega arith) hears (c.next_head.ensures.end c.loop-answered.invariant.end) _
     (subst (λ (w : Option (List ℕ)). Writes bad_reply_bytes w (g.L.Sink.held c.refuse.new.link)
-    (Err c.in_err-refuse-in-Bad.field-0.0)) c.next_head.ensures.held
+    (Err c.in_err-refuse-in-Bad.field-0.0)) c.next_head.ensures.only_reads.held
     c.in_err-refuse-in-Bad.ensures.writes))
 
 pub returns-in-Bad-clause-session : goal.returns-in-Bad-clause-session
 returns-in-Bad-clause-session g c =
     let hears = rw c.in-Bad.is at c.in_ok-request.ensures.hears in
-    rw c.refuse.ensures.remaining
+    rw c.refuse.ensures.only_writes.remaining
     (Session-refused _ _ _ _ _ _ _ _ _ _ _ _ c.loop-answered.invariant.progress (omega arith) hears
     (c.next_head.ensures.end c.loop-answered.invariant.end)
-    (rw c.next_head.ensures.held at c.in_ok-refuse-in-Bad.ensures.writes))
+    (rw c.next_head.ensures.only_reads.held at c.in_ok-refuse-in-Bad.ensures.writes))
 
 pub returns-in-Clean-clause-session : goal.returns-in-Clean-clause-session
 returns-in-Clean-clause-session g c =
     let hears = rw c.in-Clean.is at c.in_ok-request.ensures.hears in
-    rw c.next_head.ensures.held
+    rw c.next_head.ensures.only_reads.held
     (Session-clean _ _ _ _ _ _ _ _ _ _ _ c.loop-answered.invariant.progress (omega arith) hears
     (c.next_head.ensures.end c.loop-answered.invariant.end))
 
@@ -53,7 +53,7 @@ returns-in_err-entered-clause-session g c =
     let hears = rw c.in-Head.is at c.in_ok-request.ensures.hears in
     let p = err_from_is_err_and c.from_residual-in_err-entered.result
     c.from_residual-in_err-entered.ensures.1 in
-    rw (p.1, p.2, c.next_head.ensures.held)
+    rw (p.1, p.2, c.next_head.ensures.only_reads.held)
     (Session-unentered _ _ _ _ _ _ _ _ _ _ _ _ _ c.loop-answered.invariant.progress
     (omega arith) hears (c.next_head.ensures.end c.loop-answered.invariant.end)
     c.in_err-entered.ensures.only_sees.later (⊎_elim
@@ -73,14 +73,14 @@ returns-in_err-answer-clause-session g c =
     let writes = subst (λ (w : List ℕ). Writes w (g.L.Sink.held c.next_head.new.link)
     (g.L.Sink.held c.answer.new.link) (Err c.in_err-answer.field-0.0)) made
     c.in_err-answer.ensures.writes in
-    rw (p.1, p.2, c.answer.ensures.remaining)
+    rw (p.1, p.2, c.answer.ensures.only_writes.remaining)
     (Session-unanswered _ _ _ _ _ _ _ _ _ _ _ _ _ _ _ c.loop-answered.invariant.progress
     (omega arith) hears (c.next_head.ensures.end c.loop-answered.invariant.end)
     enters c.in_ok-entered.ensures.only_sees.later c.is_last-last.ensures _
     (subst (λ (w : Option (List ℕ)). Writes (newest_reply (g.R.Responder.reply_of c.args.site.now)
     c.enter.new.self c.in-Head.request c.is_last-last.result) w
     (g.L.Sink.held c.answer.new.link) (Err c.in_err-answer.field-0.0))
-    c.next_head.ensures.held writes))
+    c.next_head.ensures.only_reads.held writes))
 
 pub returns-then-request-clause-session : goal.returns-then-request-clause-session
 returns-then-request-clause-session g c =
@@ -92,11 +92,11 @@ returns-then-request-clause-session g c =
     c.in_ok-entered.ensures.number in
     let adds = subst (λ (w : List ℕ). Adds (g.L.Sink.held c.next_head.new.link) w
     (g.L.Sink.held c.answer.new.link)) made c.in_ok-answer.ensures.writes in
-    rw c.answer.ensures.remaining
+    rw c.answer.ensures.only_writes.remaining
     (Session-closed _ _ _ _ _ _ _ _ _ _ _ _ _ _ _ c.loop-answered.invariant.progress
     (omega arith) hears (c.next_head.ensures.end c.loop-answered.invariant.end)
     enters c.in_ok-entered.ensures.only_sees.later c.is_last-last.ensures
-    (rw c.next_head.ensures.held at adds) c.if-request.true)
+    (rw c.next_head.ensures.only_reads.held at adds) c.if-request.true)
 
 pub loop-answered-init : goal.loop-answered-init
 loop-answered-init g c = record {
@@ -120,11 +120,12 @@ loop-answered-preserved g c =
     let adds = subst (λ (w : List ℕ). Adds (g.L.Sink.held c.next_head.new.link) w
     (g.L.Sink.held c.answer.new.link)) made c.in_ok-answer.ensures.writes in
     record {
-      progress = rw c.answer.ensures.remaining
+      progress = rw c.answer.ensures.only_writes.remaining
           (Progress-more _ _ _ _ _ _ _ _ _ _ _ _ _ _ _ c.loop-answered.invariant.progress hears
           enters c.in_ok-entered.ensures.only_sees.later c.is_last-last.ensures
-          (rw c.next_head.ensures.held at adds) c.if-request.false);
-      end = rw c.answer.ensures.remaining (c.next_head.ensures.end c.loop-answered.invariant.end);
+          (rw c.next_head.ensures.only_reads.held at adds) c.if-request.false);
+      end = rw c.answer.ensures.only_writes.remaining
+          (c.next_head.ensures.end c.loop-answered.invariant.end);
       read_faults = search rules;
       write_faults = search rules;
       same_references = search rules;
