@@ -1,7 +1,7 @@
 -- Cited by public clauses. Expressions of build lines (The go command, "Build constraints"): trees,
 -- the symbols that a tree is printed as, which trees are valid, and their value.
 use Rattle.std.specs.Prelude.{◌≡◌, ℕ, suc, ◌≤◌, Bool, true, false, ◌&&◌, ◌||◌, not, List, [], ◌∷◌}
-use Rattle.std.specs.Prelude.{◌++◌, ◌==◌, max, IsTrue, codes, Option, Some, None}
+use Rattle.std.specs.Prelude.{◌++◌, ◌==◌, max, IsTrue, codes}
 use Rattle.std.specs.List.{list_all}
 use Rattle.std.specs.Str.{all_scalars, encode_utf8_all}
 use Rattle.go_chars.specs.Identifiers.{is_letter_or_digit}

@@ -57,8 +57,8 @@ pub fn run<R: Wait, T: Tree, I: Source, O: Sink>(
     ensures answer_statuses { command_of (map string_bytes words.now) ≡ Some answer
         → IsOfAnswer result }
 
-    // A fault comes only where its count rose in this call, or stands at its end, and anything else
-    // only where the count is as it was.
+    // A fault comes only where its count rose by one in this call, or stands at its end, and
+    // anything else only where the count is as it was.
     ensures list_faults { IsCaused (T.list_faults tree.old) (T.list_faults tree.new)
         (result ≡ Status.TreeFault) }
     ensures read_faults { IsCaused (I.read_faults input.old) (I.read_faults input.new)
@@ -108,8 +108,8 @@ pub fn run<R: Wait, T: Tree, I: Source, O: Sink>(
         (T.read_faults tree.old) (T.read_faults tree.new)
         (I.remaining input.old) (I.remaining input.new) (O.held out.old) (O.held out.new) result }
 
-    // Where no count of faults rose, only want of memory and the limits keep a command from its
-    // end.
+    // Where no count of faults rose or stands at its end, only want of memory and the limits keep
+    // a command from its end.
     ensures complete { ¬ (command_of (map string_bytes words.now) ≡ None)
         → ¬ (Rose (T.list_faults tree.old) (T.list_faults tree.new))
         → ¬ (Rose (I.read_faults input.old) (I.read_faults input.new))

@@ -27,7 +27,7 @@ pub trait Sink {
     /// the piece's length, and 0 for an empty piece.
     ///
     /// A write that fails adds no byte. It returns [`Failed`] only where the count of faults rose
-    /// in this call, or stands at its end; a write that succeeds leaves the count.
+    /// by one in this call, or stands at its end; a write that succeeds leaves the count.
     fn write(&mut self, piece: &[u8]) -> Result<usize, Failed>
         ensures bytes { WritesFrom (held self.old) (held self.new) piece.now result }
         ensures cause { HasCause (write_faults self.old) (write_faults self.new) result }
@@ -37,8 +37,8 @@ pub trait Sink {
 /// Adds a whole piece, by as many writes as it takes. It takes no memory.
 ///
 /// After [`Failed`] the sink has a first part of the piece, which ends before the piece does.
-/// `Failed` is returned only where the count of faults rose in this call, or stands at its end;
-/// where the whole piece was written, no write failed.
+/// `Failed` is returned only where the count of faults rose by one in this call, since one write
+/// failed, or stands at its end; where the whole piece was written, the count is as it was.
 pub fn write_whole<O: Sink>(out: &mut O, piece: &[u8]) -> Result<(), Failed>
     ensures ok { OnOk result (Adds (O.held out.old) piece.now (O.held out.new)) }
     ensures failed { OnErr result (AddsPart (O.held out.old) piece.now (O.held out.new)) }

@@ -29,7 +29,7 @@ pub trait Source {
     /// buffer is open.
     ///
     /// A read that fails takes no byte. It returns [`Failed`] only where the count of faults rose
-    /// in this call, or stands at its end; a read that succeeds leaves the count.
+    /// by one in this call, or stands at its end; a read that succeeds leaves the count.
     fn read(&mut self, buf: &mut [u8]) -> Result<usize, Failed>
         ensures bytes { ReadsInto (remaining self.old) (remaining self.new) buf.new result }
         ensures cause { HasCause (read_faults self.old) (read_faults self.new) result }

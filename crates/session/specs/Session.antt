@@ -60,8 +60,8 @@ pub record Session {E : Type 0} (reply : Replier E)
       → IsAnswered reply new.seen requests end entries written result
 
 -- All that one session did to a link and to a reader: what was read and written and why it ended,
--- that it ended by a fault exactly where the count of these rose in it, or stands at its end, and
--- what stays of the reader.
+-- that it ended by a fault only where the count of these rose by one, or stands at its end, and
+-- otherwise only where this count is as it was, and what stays of the reader.
 pub record ServesLink {E : Type 0} (reply : Replier E)
     (remaining remaining_after held held_after : Option (List ℕ))
     (reads reads_after writes writes_after : ℕ) (old new : View E)

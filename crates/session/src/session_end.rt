@@ -12,9 +12,9 @@ pub enum SessionEnd {
     Refused,
     /// The 1,000th reply was written, whose request didn't ask for a close.
     Full,
-    /// A read failed: the link's count of failed reads rose, or stands at its end.
+    /// A read failed: the link's count of failed reads rose by one, or stands at its end.
     ReadFault,
-    /// A write failed: the link's count of failed writes rose, or stands at its end.
+    /// A write failed: the link's count of failed writes rose by one, or stands at its end.
     WriteFault,
     /// An allocation was refused.
     NoMemory,

@@ -18,8 +18,8 @@ pub record IsReadSoFar (scans : Option (List Contents)) (paths : List (List ℕ)
   pub failed_reads : RoseBy (unread_count sources) before now
 
 -- sources that the scan under way gave, while the count of read faults went from before to now: a
--- set of sources, of which as many are `Unread` as that count rose by; where scans are told they have
--- the paths of the scan under way, and what it has there or `Unread`
+-- set of sources, of which as many are `Unread` as that count rose by, up to its end; where scans
+-- are told they have the paths of the scan under way, and what it has there or `Unread`
 pub record IsScannedFrom (scans : Option (List Contents)) (sources : Sources)
     (before now : ℕ) : Type 0 where
   pub valid : IsSources sources

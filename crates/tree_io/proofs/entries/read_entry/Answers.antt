@@ -1,4 +1,3 @@
-use Rattle.std.proofs.Common.{arith}
 use Rattle.tree_io.proofs.Reading.{IsReadSoFar-none, IsReadSoFar-read, IsReadSoFar-failed}
 use Rattle.tree_io.proofs.entries.read_entry.Goals as goal
 
