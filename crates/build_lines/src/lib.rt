@@ -20,6 +20,3 @@ mod tag;
 pub use admission::{Admission, Why};
 pub use judge::admits;
 pub use laws::one_expression;
-
-#[cfg(test)]
-mod tests;

@@ -10,8 +10,6 @@ mod laws;
 mod line;
 mod list;
 mod plain;
-#[cfg(test)]
-mod tests;
 mod text;
 
 pub use block::{Block, Item, LinkDef};

@@ -6,8 +6,6 @@ mod block;
 mod item;
 mod laws;
 mod line;
-#[cfg(test)]
-mod tests;
 mod whole;
 
 pub use laws::{escaped_texts_are_harmless, html_is_tags_and_escaped_texts};

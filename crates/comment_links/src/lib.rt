@@ -12,8 +12,6 @@ mod names;
 mod part;
 mod parts;
 mod reading;
-#[cfg(test)]
-mod tests;
 mod text;
 
 pub use definitions::Definitions;

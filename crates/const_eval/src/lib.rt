@@ -10,8 +10,6 @@ mod literal;
 mod machine;
 mod names;
 mod operator;
-#[cfg(test)]
-mod tests;
 mod value;
 
 pub use array::Length;

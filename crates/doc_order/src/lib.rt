@@ -10,8 +10,6 @@ mod lists;
 mod members;
 mod names;
 mod place;
-#[cfg(test)]
-mod tests;
 mod values;
 
 pub use laws::shown_members_stand_in_one_list;

@@ -11,8 +11,6 @@ mod places;
 mod predeclared;
 mod resolving;
 mod tables;
-#[cfg(test)]
-mod tests;
 mod versions;
 mod world;
 

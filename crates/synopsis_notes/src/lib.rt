@@ -6,8 +6,6 @@ mod laws;
 mod note;
 mod sentence;
 mod summary;
-#[cfg(test)]
-mod tests;
 
 pub use laws::text_has_one_first_sentence;
 pub use note::{bug, deprecated};
