@@ -14,7 +14,7 @@ use std::alloc::Global;
 use std::collections::BTreeMap;
 
 /// A name that a constant declaration declares (Go specification, "Constant declarations").
-#[derive(Debug, Drop)]
+#[derive(Drop)]
 pub struct ConstFact {
     /// The name.
     pub name: Txt,
@@ -123,7 +123,7 @@ fn learn_all(alloc: Global, facts: &[ConstFact], counts: &Counts, values: &mut V
 }
 
 /// A step of the search for an order in which each constant stands after those that it names.
-#[derive(Clone, Copy, Debug)]
+#[derive(Clone, Copy)]
 enum Task {
     /// Those that the constant at a place names come first.
     Enter(usize),

@@ -7,7 +7,7 @@ ghost use Rattle.const_eval.specs.Lexemes.{lexeme_of};
 use crate::operator::Operator;
 
 /// What a token is to an expression.
-#[derive(Clone, Copy, Debug, PartialEq, Eq)]
+#[derive(Clone, Copy)]
 pub enum Lexeme {
     /// `(`.
     Open,

@@ -15,7 +15,7 @@ use plain_data::Mem;
 use std::alloc::Global;
 
 /// What waits for its operand.
-#[derive(Clone, Copy, Debug)]
+#[derive(Clone, Copy)]
 pub enum Frame<X> {
     /// An opening bracket.
     Open,
@@ -29,7 +29,7 @@ pub enum Frame<X> {
 
 /// An evaluation on its way: what waits, the innermost last, and the operand before the next token,
 /// where there is one.
-#[derive(Debug, Drop)]
+#[derive(Drop)]
 pub struct Machine {
     pub frames: Vec<Frame<Value>>,
     pub operand: Option<Value>,

@@ -6,7 +6,7 @@ ghost use Rattle.std.specs.Int.RustNames.{int_rem};
 ghost use Rattle.const_eval.specs.Operators.{is_unary, is_multiplying, unary_value, binary_value, divided, shifted, times_power};
 
 /// An operator on integers (Go specification, "Operators").
-#[derive(Clone, Copy, Debug, PartialEq, Eq)]
+#[derive(Clone, Copy)]
 pub enum Operator {
     /// `+`.
     Add,
