@@ -4,6 +4,7 @@
 
 mod blank;
 mod block;
+pub mod cutting;
 mod group;
 mod kinds;
 mod laws;

@@ -12,8 +12,9 @@ ghost use Rattle.comment_blocks.specs.Texts.{is_blank};
 ghost use Rattle.comment_blocks.specs.LineSteps.{is_filled, is_unmarked, item_at, paragraph_at};
 ghost use Rattle.comment_blocks.specs.LineSteps.{texts};
 
-use crate::blank::{behind, blank_len, cut, trim_front};
+use crate::blank::{blank_len, trim_front};
 use crate::block::Item;
+use crate::cutting::{after, cut};
 use crate::line::{is_blank, skip};
 use go_ast::{Mem, Seq, Txt};
 use std::alloc::Global;
@@ -52,7 +53,7 @@ fn numbered_with<'a>(number: &'a str, rest: &'a str) -> Option<Marked<'a>>
         ≡ Some (record { number = found.number.now; text = found.text.now })) }
 {
     match rest.as_bytes() {
-        [b'.' | b')', ..] => marked_with(number, behind(rest, 1)),
+        [b'.' | b')', ..] => marked_with(number, after(rest, 1)),
         _ => None,
     }
 }
@@ -74,7 +75,7 @@ fn marked_at(line: &str) -> Option<Marked<'_>>
         ≡ Some (record { number = found.number.now; text = found.text.now })) }
 {
     match line.as_bytes() {
-        [b'*' | b'+' | b'-', ..] => marked_with("", behind(line, 1)),
+        [b'*' | b'+' | b'-', ..] => marked_with("", after(line, 1)),
         [b'0'..=b'9', ..] => numbered(line),
         [0xE2, 0x80, 0xA2, ..] => marked_with("", cut(line, 3).1),
         _ => None,

@@ -1,23 +1,23 @@
 //! What a plain span is: a heading, definitions of links, or a paragraph.
 
 ghost use Rattle.std.specs.Prelude.{◌≡◌, ◌≤◌, ◌<◌, IfOk, MatchOption, None, Some, length, nat_eq};
-ghost use Rattle.std.specs.List.{join_with_byte, last_or, list_any, prefix_len};
-ghost use Rattle.std.specs.Str.{chars};
+ghost use Rattle.std.specs.List.{join_with_byte, list_any, prefix_len};
 ghost use Rattle.go_ast.specs.Characters.{newline};
 ghost use Rattle.comment_blocks.specs.Kinds.{begins_blank, defined_by, definition_behind};
 ghost use Rattle.comment_blocks.specs.Kinds.{definition_in, definition_of, definition_with};
 ghost use Rattle.comment_blocks.specs.Kinds.{definitions_of, has_heading_form, has_known_scheme};
 ghost use Rattle.comment_blocks.specs.Kinds.{has_scheme, heading_after, is_address};
-ghost use Rattle.comment_blocks.specs.Kinds.{is_heading_mark, is_in_brackets, is_name_end};
+ghost use Rattle.comment_blocks.specs.Kinds.{is_heading_mark, is_in_brackets};
 ghost use Rattle.comment_blocks.specs.Kinds.{marked_heading};
 ghost use Rattle.comment_blocks.specs.LineSteps.{texts};
 ghost use Rattle.comment_blocks.specs.Texts.{is_blank};
 
-use crate::blank::{behind, cut, trim_back, trim_front};
+use crate::blank::{trim_back, trim_front};
 use crate::block::LinkDef;
+use crate::cutting::{after, cut, ends_in_name};
 use crate::line::is_blank;
 use go_ast::{Mem, Seq, Txt};
-use go_chars::{is_digit, is_exported, is_letter};
+use go_chars::is_exported;
 use std::alloc::Global;
 
 /// The text of a heading behind its mark, or `None` where there are blanks alone.
@@ -39,7 +39,7 @@ pub fn marked_heading(line: &str) -> Option<&str>
         (λ heading. marked_heading line.now ≡ Some heading.now) }
 {
     match line.as_bytes() {
-        [b'#', b' ', ..] => heading_after(behind(line, 2)),
+        [b'#', b' ', ..] => heading_after(after(line, 2)),
         _ => None,
     }
 }
@@ -49,22 +49,6 @@ fn is_heading_mark(byte: u8) -> bool
     ensures { result ≡ is_heading_mark byte }
 {
     b";:!?+*/=[]{}_^&~%#@<>\"\\.".contains(&byte)
-}
-
-fn last_char(text: &str) -> Option<char>
-    ensures { result ≡ last_or None (chars text.now) }
-{
-    text.chars().last()
-}
-
-/// Whether a text ends with a letter or a digit.
-fn ends_in_name(text: &str) -> bool
-    ensures { result ≡ is_name_end (last_or None (chars text.now)) }
-{
-    match last_char(text) {
-        None => false,
-        Some(c) => is_letter(c) || is_digit(c),
-    }
 }
 
 /// Whether a text has one of the marks that stand in no heading without a mark.
@@ -156,7 +140,7 @@ fn definition_behind<'a>(text: &'a str, rest: &'a str) -> Option<Definition<'a>>
         ≡ Some (record { text = found.text.now; url = found.url.now })) }
 {
     match rest.as_bytes() {
-        [b']', b':', ..] => defined_by(text, behind(rest, 2)),
+        [b']', b':', ..] => defined_by(text, after(rest, 2)),
         _ => None,
     }
 }
@@ -190,7 +174,7 @@ fn definition_of(line: &str) -> Option<Definition<'_>>
         ≡ Some (record { text = found.text.now; url = found.url.now })) }
 {
     match line.as_bytes() {
-        [b'[', ..] => definition_in(behind(line, 1)),
+        [b'[', ..] => definition_in(after(line, 1)),
         _ => None,
     }
 }

@@ -6,7 +6,7 @@ ghost use Rattle.comment_links.specs.InlinesOf.{address_at, address_by, address_
 
 use crate::found::Found;
 use crate::part::Inline;
-use crate::text::ends_in_name;
+use comment_blocks::cutting::ends_in_name;
 use go_ast::{Mem, Txt};
 use std::alloc::Global;
 

@@ -11,7 +11,8 @@ use crate::definitions::Definitions;
 use crate::found::Found;
 use crate::names::Names;
 use crate::part::Inline;
-use crate::text::{begins_in_name, behind_first, cut, ends_in_name};
+use crate::text::begins_in_name;
+use comment_blocks::cutting::{after, cut, ends_in_name};
 use go_ast::{Mem, Txt};
 use std::alloc::Global;
 
@@ -66,7 +67,7 @@ fn without_star(body: &str) -> &str
     ensures { result.now ≡ without_star body.now }
 {
     match body.as_bytes() {
-        [b'*', ..] => behind_first(body),
+        [b'*', ..] => after(body, 1),
         _ => body,
     }
 }
@@ -104,7 +105,7 @@ pub fn doc_link<N: Names>(
 {
     let (body, rest) = cut(tail, len);
     match rest.as_bytes() {
-        [b']', ..] => doc_with(alloc, before, body, behind_first(rest), names),
+        [b']', ..] => doc_with(alloc, before, body, after(rest, 1), names),
         _ => Ok(None),
     }
 }

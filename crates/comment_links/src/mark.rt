@@ -12,7 +12,7 @@ use crate::definitions::Definitions;
 use crate::found::Found;
 use crate::names::Names;
 use crate::part::Inline;
-use crate::text::{behind_first, cut};
+use comment_blocks::cutting::{after, cut};
 use go_ast::{Mem, Txt};
 use std::alloc::Global;
 
@@ -85,7 +85,7 @@ pub fn found_at<N: Names>(
     match rest.as_bytes() {
         [b'[', ..] => {
             let len = closing - place - 1;
-            bracketed(alloc, before, behind_first(rest), len, definitions, names)
+            bracketed(alloc, before, after(rest, 1), len, definitions, names)
         }
         [b'h' | b'f', ..] => address_at(alloc, before, rest),
         _ => quote_at(alloc, rest.as_bytes()),

@@ -2,7 +2,7 @@ use Rattle.std.proofs.Common.{◌≡◌, ◌+◌, ◌-◌, subst, arith}
 use Rattle.std.specs.Str.{IsCharBoundary}
 use Rattle.std.proofs.lemmas.Bool.{ltb-true}
 use Rattle.std.proofs.lemmas.Str.{IsCharBoundary-after_ascii}
-use Rattle.synopsis_notes.proofs.note.behind.Goals as goal
+use Rattle.comment_blocks.proofs.cutting.after.Goals as goal
 
 pub range_from-requires : goal.range_from-requires
 range_from-requires c = λ _.

@@ -1,5 +1,5 @@
 use Rattle.std.proofs.Common.{◌≤◌, length}
-use Rattle.comment_links.proofs.text.last_start.Given as goal
+use Rattle.comment_blocks.proofs.cutting.last_start.Given as goal
 
 abbrev pub invariant-loop-start : goal.invariant-loop-start
 invariant-loop-start l = l.start ≤ length l.text

@@ -1,8 +1,8 @@
 use Rattle.std.proofs.Common.{None, ◌∙◌, ap}
 use Rattle.std.specs.List.{last_or}
 use Rattle.std.specs.Str.{chars}
-use Rattle.comment_links.proofs.LastChars.{last_from}
-use Rattle.comment_links.proofs.text.last_char.Goals as goal
+use Rattle.comment_blocks.proofs.LastChars.{last_from}
+use Rattle.comment_blocks.proofs.cutting.last_char.Goals as goal
 
 pub returns : goal.returns
 returns c =

@@ -2,7 +2,7 @@ use Rattle.std.proofs.Common.{◌≡◌, sym, ◌∙◌, ap, None}
 use Rattle.std.specs.List.{last_or}
 use Rattle.std.specs.Str.{chars}
 use Rattle.std.proofs.lemmas.Str.{Chars-Drains, encodes-chars}
-use Rattle.comment_blocks.proofs.plain.last_char.Goals as goal
+use Rattle.comment_blocks.proofs.cutting.last_of.Goals as goal
 
 pub returns : goal.returns
 returns c =
