@@ -1,6 +1,6 @@
 use Rattle.std.proofs.Common.{List, ℕ, Option, ap, sym, arith}
 use Rattle.std.specs.Option.{option_map_or}
-use Rattle.name_scope.proofs.LastOf.{split_found, split_missed}
+use Rattle.plain_data.proofs.LastOf.{split_found, split_missed}
 use Rattle.name_scope.proofs.versions.last_segment.Goals as goal
 
 pub returns-in-Some : goal.returns-in-Some

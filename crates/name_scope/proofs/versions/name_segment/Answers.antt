@@ -1,7 +1,7 @@
 use Rattle.std.proofs.Common.{List, ℕ, Option, Bool, cond, ap, sym, ◌∙◌, arith}
 use Rattle.std.specs.Option.{option_map_or}
 use Rattle.name_scope.specs.Scopes.{is_version, last_segment}
-use Rattle.name_scope.proofs.LastOf.{split_found, split_missed}
+use Rattle.plain_data.proofs.LastOf.{split_found, split_missed}
 use Rattle.name_scope.proofs.versions.name_segment.Goals as goal
 
 pub returns-then-is_version : goal.returns-then-is_version
