@@ -30,11 +30,11 @@ pub enum Place {
     InTag,
 }
 
-/// What a character does: the symbol that ends with it, and the place behind it.
+/// What a character does: the symbol that ends with it, and the place after it.
 #[derive(Clone, Copy)]
 pub struct Step {
     /// The symbol, where one other than a tag ends with the character.
     pub symbol: Option<Symbol>,
-    /// The place behind the character.
+    /// The place after the character.
     pub place: Place,
 }

@@ -5,7 +5,8 @@ ghost use Rattle.std.specs.BTreeMap.{get_by_text};
 ghost use Rattle.const_eval.specs.Machine.{state_of};
 ghost use Rattle.const_eval.specs.Names.{names_of};
 ghost use Rattle.const_eval.specs.Constants.{IsConstant, Gives};
-ghost use Rattle.const_eval.specs.Progress.{run_value, news_from, AreCounts, IsKnown, Attempts, Passes};
+ghost use Rattle.const_eval.specs.Progress.{run_value, news_from, AreCounts, IsKnown, Attempts};
+ghost use Rattle.const_eval.specs.Progress.{Passes};
 
 use crate::machine::Machine;
 use crate::names::{Names, Values};
@@ -204,6 +205,10 @@ fn learn_in_order(
 impl Constants {
     /// What the constants of a package are worth. Each is evaluated once after those that it
     /// names, and those that then have no value once more.
+    ///
+    /// # Errors
+    ///
+    /// `NoMemory` where an allocation is refused.
     pub fn make(alloc: Global, specs: &[ConstFact]) -> Mem<Constants>
         ensures { IfOk result (λ constants. (name : List ℕ) (number : ℤ)
             → Gives constants name number ↔ IsConstant specs.now name number) }

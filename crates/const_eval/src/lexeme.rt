@@ -1,4 +1,4 @@
-//! Tokens as expressions tell them apart.
+//! The kinds of tokens in an expression.
 
 ghost use Rattle.std.specs.Prelude.{◌≡◌};
 ghost use Rattle.std.specs.Str.{bytes_eq};

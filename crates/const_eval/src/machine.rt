@@ -1,7 +1,8 @@
 //! The evaluation of an expression, token by token.
 
 ghost use Rattle.std.specs.Prelude.{◌≡◌, [], ◌∷◌, reverse, IfOk, OnOk, MatchOption, None, Some};
-ghost use Rattle.const_eval.specs.Machine.{values, arrive, settle, close, go_on, begin, step, finish, having, left_of, state_of, AreWithin, Steps};
+ghost use Rattle.const_eval.specs.Machine.{values, arrive, settle, close, go_on, begin, step};
+ghost use Rattle.const_eval.specs.Machine.{finish, having, left_of, state_of, AreWithin, Steps};
 ghost use Rattle.const_eval.specs.Lexemes as lexemes;
 ghost use Rattle.const_eval.specs.Values.{◌|>◌};
 ghost use Rattle.const_eval.specs.Names.{names_of};

@@ -2,7 +2,7 @@
 
 use plain_data::{Seq, Txt};
 
-/// A declaration of a package, outside functions, in a file that is no test.
+/// A declaration of a package, outside functions, in a file that isn't a test.
 #[derive(Drop)]
 pub enum Member {
     /// A declaration of constants or variables.
