@@ -14,7 +14,7 @@ pub fn blank_len(text: &[u8]) -> usize
     text.iter().take_while(|byte| is_blank(**byte)).count()
 }
 
-/// A text without the blanks at its front.
+/// A text without the blanks at its beginning.
 pub fn trim_front(text: &str) -> &str
     ensures { result.now ≡ without_blanks text.now }
 {

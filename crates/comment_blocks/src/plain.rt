@@ -20,7 +20,7 @@ use go_ast::{Mem, Seq, Txt};
 use go_chars::is_exported;
 use std::alloc::Global;
 
-/// The text of a heading behind its mark, or `None` where there are blanks alone.
+/// The text of a heading after its mark, or `None` where there are blanks alone.
 fn heading_after(text: &str) -> Option<&str>
     ensures { MatchOption result (heading_after text.now ≡ None)
         (λ heading. heading_after text.now ≡ Some heading.now) }
@@ -44,14 +44,14 @@ pub fn marked_heading(line: &str) -> Option<&str>
     }
 }
 
-/// Whether a byte stands in no heading without a mark.
+/// Whether a line with this byte can't be a heading without a mark.
 fn is_heading_mark(byte: u8) -> bool
     ensures { result ≡ is_heading_mark byte }
 {
     b";:!?+*/=[]{}_^&~%#@<>\"\\.".contains(&byte)
 }
 
-/// Whether a text has one of the marks that stand in no heading without a mark.
+/// Whether a text has a byte that a heading without a mark can't have.
 fn has_heading_mark(text: &[u8]) -> bool
     ensures { result ≡ list_any is_heading_mark text.now }
 {
@@ -65,14 +65,14 @@ pub fn has_heading_form(line: &str) -> bool
     is_exported(line) && ends_in_name(line) && !has_heading_mark(line.as_bytes())
 }
 
-/// Whether an address begins with a scheme and has something behind it.
+/// Whether an address begins with a scheme and has something after it.
 fn has_scheme(scheme: &str, address: &[u8]) -> bool
     ensures { result ≡ has_scheme scheme.now address.now }
 {
     address.starts_with(scheme.as_bytes()) && scheme.len() < address.len()
 }
 
-/// Whether an address begins with one of the three schemes and has something behind it.
+/// Whether an address begins with one of the three schemes and has something after it.
 fn has_known_scheme(address: &[u8]) -> bool
     ensures { result ≡ has_known_scheme address.now }
 {
@@ -94,7 +94,7 @@ fn is_address(text: &[u8]) -> bool
     has_known_scheme(text) && !has_blank(text)
 }
 
-/// How many bytes at the front of a text are no brackets.
+/// How many bytes at the beginning of a text aren't brackets.
 fn unbracketed_len(text: &[u8]) -> usize
     ensures { result ≡ prefix_len is_in_brackets text.now }
 {
@@ -119,7 +119,7 @@ struct Definition<'a> {
     url: &'a str,
 }
 
-/// A definition, by its text and by what stands behind `]:`.
+/// A definition, by its text and by what stands after `]:`.
 fn defined_by<'a>(text: &'a str, after: &'a str) -> Option<Definition<'a>>
     ensures { MatchOption result (defined_by text.now after.now ≡ None)
         (λ found. defined_by text.now after.now
@@ -133,7 +133,7 @@ fn defined_by<'a>(text: &'a str, after: &'a str) -> Option<Definition<'a>>
     }
 }
 
-/// A definition, by its text and by what stands behind that.
+/// A definition, by its text and by what stands after that.
 fn definition_behind<'a>(text: &'a str, rest: &'a str) -> Option<Definition<'a>>
     ensures { MatchOption result (definition_behind text.now rest.now ≡ None)
         (λ found. definition_behind text.now rest.now
@@ -158,7 +158,7 @@ fn definition_with<'a>(text: &'a str, rest: &'a str) -> Option<Definition<'a>>
     }
 }
 
-/// The definition whose text begins behind the opening bracket.
+/// The definition whose text begins after the opening bracket.
 fn definition_in(line: &str) -> Option<Definition<'_>>
     ensures { MatchOption result (definition_in line.now ≡ None)
         (λ found. definition_in line.now

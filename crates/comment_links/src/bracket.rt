@@ -28,7 +28,7 @@ fn bracket_link(alloc: Global, text: &str, href: Txt) -> Mem<Found>
     })
 }
 
-/// How many bytes at the front are no brackets.
+/// How many bytes at the beginning aren't brackets.
 fn unbracketed_len(text: &[u8]) -> usize
     ensures { result ≡ prefix_len is_in_brackets text.now }
 {
@@ -51,7 +51,7 @@ fn defined_with(alloc: Global, text: &str, definitions: &Definitions) -> Mem<Opt
     }
 }
 
-/// The defined link whose text begins behind the opening bracket.
+/// The defined link whose text begins after the opening bracket.
 pub fn defined_link(alloc: Global, tail: &str, definitions: &Definitions) -> Mem<Option<Found>>
     ensures { IfOk result (λ found. found ≡ defined_link definitions.now tail.now) }
 {
@@ -72,7 +72,7 @@ fn without_star(body: &str) -> &str
     }
 }
 
-/// The doc link with a body, by what stands before it and behind it.
+/// The doc link with a body, by what stands before and after it.
 fn doc_with<N: Names>(
     alloc: Global,
     before: &str,
@@ -92,7 +92,7 @@ fn doc_with<N: Names>(
     }
 }
 
-/// The doc link whose body begins behind the opening bracket, by the length of the body.
+/// The doc link whose body begins after the opening bracket, by the length of the body.
 pub fn doc_link<N: Names>(
     alloc: Global,
     before: &str,

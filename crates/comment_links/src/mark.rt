@@ -33,7 +33,7 @@ fn quote(alloc: Global, text: &str) -> Mem<Option<Found>>
     }))
 }
 
-/// The quote at the front of a text.
+/// The quote at the beginning of a text.
 fn quote_at(alloc: Global, text: &[u8]) -> Mem<Option<Found>>
     ensures { IfOk result (λ found. found ≡ quote_at text.now) }
 {
@@ -44,7 +44,7 @@ fn quote_at(alloc: Global, text: &[u8]) -> Mem<Option<Found>>
     }
 }
 
-/// The link whose text begins behind the opening bracket, by what stands before the bracket and the
+/// The link whose text begins after the opening bracket, by what stands before the bracket and the
 /// number of bytes before the next closing one.
 fn bracketed<N: Names>(
     alloc: Global,

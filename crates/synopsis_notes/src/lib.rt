@@ -1,5 +1,11 @@
-//! What the text of a doc comment says in short (`go/doc`): its synopsis, a note on a bug, and
-//! whether something is deprecated.
+//! What the text of a doc comment says in short: its synopsis, a note on a bug, and whether
+//! something is deprecated (after Go's package `go/doc`).
+//!
+//! ```
+//! let first = synopsis(alloc, "Sum adds. It may wrap.")?; // Sum adds.
+//! let note = bug(alloc, "BUG(ann): leaks.")?; // leaks.
+//! let old = deprecated(alloc, "Deprecated: use B.")?; // true
+//! ```
 #![tactic(auto)]
 
 mod laws;

@@ -27,7 +27,7 @@ fn white_len(text: &[u8]) -> usize
     text.iter().take_while(|byte| is_white(**byte)).count()
 }
 
-/// A text without the blanks and newlines at its front.
+/// A text without the blanks and newlines at its beginning.
 fn trim_front(text: &str) -> &str
     ensures { result.now ≡ without_first_white text.now }
 {
@@ -53,7 +53,7 @@ fn trim(text: &str) -> &str
     trim_back(trim_front(text))
 }
 
-/// A text without a colon at its front.
+/// A text without a colon at its beginning.
 fn behind_colon(text: &str) -> &str
     ensures { result.now ≡ behind_colon text.now }
 {
@@ -63,7 +63,7 @@ fn behind_colon(text: &str) -> &str
     }
 }
 
-/// The note behind `)`.
+/// The note after `)`.
 fn note_closed(text: &str) -> Option<&str>
     ensures { MatchOption result (note_closed text.now ≡ None)
         (λ note. note_closed text.now ≡ Some note.now) }
@@ -74,7 +74,7 @@ fn note_closed(text: &str) -> Option<&str>
     }
 }
 
-/// How many bytes at the front of a text are no parentheses.
+/// How many bytes at the beginning of a text aren't parentheses.
 fn name_len(text: &[u8]) -> usize
     ensures { result ≡ prefix_len is_in_name text.now }
 {
@@ -106,7 +106,7 @@ fn note_of(text: &str) -> Option<&str>
 
 /// The note on a bug that the text of a comment is, or `None` where it isn't one: a text that
 /// begins `BUG(`, a name that isn't empty and has no parenthesis, `)`, and an optional `:`. The
-/// note is what stands behind these, without the blanks and newlines at both ends (`go/doc`,
+/// note is what stands after these, without the blanks and newlines at both ends (`go/doc`,
 /// `Note`).
 ///
 /// # Errors
