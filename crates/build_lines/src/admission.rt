@@ -5,16 +5,16 @@
 pub enum Admission {
     /// It is read.
     Admitted,
-    /// It is passed over.
+    /// It is skipped.
     Ignored(Why),
     /// The build line on this line, counted from 1, is malformed, or is a second one.
     BadBuildLine(u32),
 }
 
-/// Why a file is passed over.
+/// Why a file is skipped.
 #[derive(Clone, Copy, Debug, PartialEq, Eq)]
 pub enum Why {
-    /// Its name tells of another system or architecture.
+    /// Its name names another system or architecture.
     ByName,
     /// The expression of its build line doesn't hold.
     ByLine,

@@ -21,7 +21,7 @@ fn is_semicolon(kind: TokenKind) -> bool
     matches!(kind, TokenKind::Semi | TokenKind::AutoSemi)
 }
 
-/// The first token that is no semicolon.
+/// The first token that isn't a semicolon.
 fn first_token(tokens: &[Token]) -> Option<Token>
     ensures { result ≡ first_token tokens.now }
 {
@@ -57,7 +57,7 @@ fn is_white_space(byte: u8) -> bool
     matches!(byte, b' ' | b'\t' | b'\r' | b'\n')
 }
 
-/// The bytes without a byte order mark at their front.
+/// The bytes without a byte order mark at their beginning.
 fn without_mark(bytes: &[u8]) -> &[u8]
     ensures { result.now ≡ without_mark bytes.now }
 {
@@ -96,7 +96,7 @@ fn begins_build(text: &[u8]) -> bool
     text.starts_with(b"//go:build") && ends_word(&text[10..])
 }
 
-/// Whether a comment is a build line, where the first token that is no semicolon is this one.
+/// Whether a comment is a build line, where the first token that isn't a semicolon is this one.
 fn is_build_line(source: &[u8], first: Option<Token>, comment: &Comment) -> bool
     requires { IsInside (length source.now) comment.now }
     ensures { result ≡ is_build_line source.now first comment.now }
@@ -124,7 +124,7 @@ pub fn build_lines(alloc: Global, source: &[u8], scanned: &Scanned) -> Mem<Vec<C
     Ok(lines)
 }
 
-/// What stands behind `//go:build` in a build line.
+/// What stands after `//go:build` in a build line.
 #[tactic(auto, unfolding(crate::specs::BuildLines::begins_build))]
 pub fn expression_text<'a>(source: &'a [u8], line: &Comment) -> &'a [u8]
     requires inside { IsInside (length source.now) line.now }

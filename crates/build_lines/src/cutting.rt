@@ -80,7 +80,7 @@ pub struct Cutting {
 }
 
 impl Cutting {
-    /// Ends the tag, if one goes before a character behind which this place is.
+    /// Ends the tag, if one ends before a character that leads to this place.
     fn end_tag(&mut self, place: Place, config: &Config) -> Mem<()>
         ensures { OnOk result (IsTagEnded (holds config.now) self.old place self.new) }
     {

@@ -21,7 +21,7 @@ fn without_test(text: &[u8]) -> &[u8]
     }
 }
 
-/// What stands behind the last slash and before the first point after it, without a final `_test`.
+/// What stands after the last slash and before the first point after it, without a final `_test`.
 fn stem_of(path: &[u8]) -> &[u8]
     ensures { result.now ≡ stem_of path.now }
 {

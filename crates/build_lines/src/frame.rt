@@ -5,7 +5,7 @@ ghost use Rattle.build_lines.specs.Reading.{no_values, value_of_frame, values, w
 ghost use Rattle.build_lines.specs.Reading.{with_operand};
 
 /// What the operands so far give inside one pair of parentheses, or outside all.
-#[derive(Clone, Copy, Debug, PartialEq, Eq)]
+#[derive(Clone, Copy)]
 pub struct Frame {
     /// Whether one of the alternatives before the last `||` holds.
     pub any: bool,

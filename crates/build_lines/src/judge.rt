@@ -68,12 +68,15 @@ fn judge(
 /// The source has at most [`MAX_SOURCE_BYTES`](go_ast::MAX_SOURCE_BYTES) bytes, and the tokens and
 /// comments are those of its reading. A build line is a `//` comment before the first token that is
 /// no semicolon, with only white space before it on its line, that begins `//go:build` and ends
-/// there or goes on with a blank. `BadBuildLine` comes first: with the line of the first build
+/// there or continues with a blank. `BadBuildLine` comes first: with the line of the first build
 /// line, where what follows in it spells no expression of at most 100 levels, else with the line of
-/// a second one. Then comes `Ignored(ByName)`, where the name of the file tells of a system or an
+/// a second one. Then comes `Ignored(ByName)`, where the name of the file names a system or an
 /// architecture that doesn't hold, and then `Ignored(ByLine)`, where the expression doesn't hold.
-/// Else the file is `Admitted`. `NoMemory` comes where an allocation was refused. (The go command,
-/// "Build constraints".)
+/// Else the file is `Admitted` (The go command, "Build constraints").
+///
+/// # Errors
+///
+/// `NoMemory` where an allocation is refused.
 pub fn admits(
     alloc: Global,
     path: &str,

@@ -2,6 +2,14 @@
 //! command, "Build constraints").
 //!
 //! [`admits`] gives exactly the admission of `specs/Admissions.antt`.
+//!
+//! ```
+//! match admits(alloc, "x_linux.go", source, &scanned, &config)? {
+//!     Admission::Admitted => {}
+//!     Admission::Ignored(why) => {}
+//!     Admission::BadBuildLine(line) => {}
+//! }
+//! ```
 #![tactic(auto)]
 
 mod admission;
@@ -20,6 +28,3 @@ mod tag;
 pub use admission::{Admission, Why};
 pub use judge::admits;
 pub use laws::one_expression;
-
-#[cfg(test)]
-mod tests;

@@ -27,7 +27,7 @@ pub fn before_last(byte: u8, bytes: &[u8]) -> &[u8]
     }
 }
 
-/// What stands behind the last of these bytes, or all where there is none.
+/// What stands after the last of these bytes, or all where there is none.
 #[tactic(auto, using(crate::proofs::CutBytes::last_none, crate::proofs::CutBytes::last_some))]
 pub fn after_last(byte: u8, bytes: &[u8]) -> &[u8]
     ensures { result.now ≡ after_last (λ b. b == byte) bytes.now }

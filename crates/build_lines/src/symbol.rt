@@ -1,7 +1,7 @@
 //! The symbols of an expression.
 
 /// A symbol of an expression, with a tag's value in place of its name.
-#[derive(Clone, Copy, Debug, PartialEq, Eq)]
+#[derive(Clone, Copy)]
 pub enum Symbol {
     /// `(`.
     Open,
@@ -18,7 +18,7 @@ pub enum Symbol {
 }
 
 /// Where a character of an expression stands.
-#[derive(Clone, Copy, Debug, PartialEq, Eq)]
+#[derive(Clone, Copy, PartialEq, Eq)]
 pub enum Place {
     /// Between symbols.
     Between,
@@ -30,11 +30,11 @@ pub enum Place {
     InTag,
 }
 
-/// What a character does: the symbol that ends with it, and the place behind it.
-#[derive(Clone, Copy, Debug, PartialEq, Eq)]
+/// What a character does: the symbol that ends with it, and the place after it.
+#[derive(Clone, Copy)]
 pub struct Step {
     /// The symbol, where one other than a tag ends with the character.
     pub symbol: Option<Symbol>,
-    /// The place behind the character.
+    /// The place after the character.
     pub place: Place,
 }

@@ -6,6 +6,7 @@ mod DocGroups
 mod Halves
 mod Items
 mod LaidOut
+mod LastChars
 mod LineCuts
 mod ListSteps
 mod Loops

@@ -1,6 +1,7 @@
 -- At most one group documents a line: of two groups that end on the line before, the second begins
 -- on a line where a token ends, or the first does.
-use Rattle.std.proofs.Common.{◌≡◌, ◌==◌, ℕ, zero, suc, ◌+◌, ◌-◌, ◌<◌, ◌≤◌, Bool, true, false, length}
+use Rattle.std.proofs.Common.{◌≡◌, ◌==◌, ℕ, zero, suc, ◌+◌, ◌-◌, ◌<◌, ◌≤◌, Bool, true, false}
+use Rattle.std.proofs.Common.{length}
 use Rattle.std.proofs.Common.{get_or, sym, ◌∙◌, subst, inl, inr, ⊎_elim, arith, leb, Some}
 use Rattle.std.specs.Prelude.{slice_get, not, ◌&&◌, ◌||◌, ◌⊎◌}
 use Rattle.std.proofs.lemmas.Bool.{cases_lt, cases_order, both_ways, and_parts, and_from, and_cases}
@@ -227,7 +228,8 @@ none_between scanned first last later_first later_last d two found =
     in
     let token = some.1 in
     let one : IsToken scanned token = record { place = some.0; within = some.2; is = some.3 } in
-    let test = and_parts (leb comment.span.end token.span.start) (leb token.span.end next.span.start)
+    let test = and_parts (leb comment.span.end token.span.start)
+    (leb token.span.end next.span.start)
     some.4 in
     let low = ends_behind scanned comment token two.laid one (leb-true _ _ test.0) in
     let high = line_at_never_falls scanned.lines _ _ (leb-true _ _ test.1) in
@@ -265,7 +267,8 @@ none_in_front scanned first last later_first later_last d two found differ =
     let span = line_at_never_falls scanned.lines _ _ (two.laid.comment_spans last d within) in
     ⊎_elim
     (λ (front : token.span.end ≤ comment.span.start). both_ways _ two.alone
-    (first_beside scanned first last d token two.laid one two.starts within two.together front same))
+    (first_beside scanned first last d token two.laid one two.starts within two.together front
+    same))
     (λ (behind : comment.span.end ≤ token.span.start).
     let low = ends_behind scanned comment token two.laid one behind in
     differ (omega (arith, low, same, span, near.start, two.ends d)))

@@ -3,7 +3,7 @@
 use go_ast::{Seq, Txt};
 
 /// A part of a comment's text (Go Doc Comments).
-#[derive(Debug, Drop)]
+#[derive(Drop)]
 pub enum Block {
     /// A paragraph: its lines, joined by newlines.
     Paragraph(Txt),
@@ -24,7 +24,7 @@ pub enum Block {
 }
 
 /// An item of a list.
-#[derive(Debug, Drop)]
+#[derive(Drop)]
 pub struct Item {
     /// The decimal digits of its marker, or the empty text where the marker has none.
     pub number: Txt,
@@ -33,7 +33,7 @@ pub struct Item {
 }
 
 /// A definition of a link: `[text]: url`.
-#[derive(Debug, Drop)]
+#[derive(Drop)]
 pub struct LinkDef {
     /// The text between the brackets.
     pub text: Txt,

@@ -91,7 +91,7 @@ fn goes_on_at(scanned: &Scanned, place: usize) -> bool
     }
 }
 
-/// The last place at or before a place at which no comment goes on a group.
+/// The last place at or before a place at which no comment continues a group.
 fn group_start(scanned: &Scanned, place: usize) -> usize
     requires { IsInOrder scanned.now }
     ensures { IsStart scanned.now place result }
@@ -156,8 +156,8 @@ fn find_group(scanned: &Scanned, line: usize) -> Option<TokenRange>
 /// a token ends, as places in `comments`; `None` exactly where there is no such group. Lines count
 /// from 1. It takes no memory (Go Doc Comments).
 ///
-/// The last comment before the line is found by halving, and from there the groups that end on the
-/// line before are gone over: a call costs as many steps as these have comments.
+/// The last comment before the line is found by binary search, and from there the groups that end
+/// on the line before are visited: a call takes one step for each of their comments.
 pub fn doc_group(scanned: &Scanned, line: u32) -> Option<TokenRange>
     requires { IsScan scanned.now }
     ensures found { IfSome result (λ range. IsDocGroup scanned.now line range.first range.after) }

@@ -108,8 +108,8 @@ fn indented_block(alloc: Global, lines: &[&str]) -> Mem<Block>
     }
 }
 
-/// How many lines the span or the empty line at the front has, by its first line and those after
-/// it.
+/// How many lines the span or the empty line at the beginning has, by its first line and those
+/// after it.
 fn piece_len(line: &str, after: &[&str]) -> usize
     ensures len { result ≡ 1 + span_len line.now (texts after.now) }
     ensures within { result ≤ 1 + length after.now }
@@ -123,7 +123,7 @@ fn piece_len(line: &str, after: &[&str]) -> usize
     }
 }
 
-/// The block of a span that begins with a line, by the lines behind it: `free` says whether the
+/// The block of a span that begins with a line, by the lines after it: `free` says whether the
 /// line before it is empty or absent, `plain` whether the span before it is there and plain.
 fn span_block(
     alloc: Global,
@@ -194,6 +194,10 @@ fn blocks_of_lines(alloc: Global, lines: &[&str]) -> Mem<Seq<Block>>
 /// The blocks of a comment's text, in their order: a heading, a paragraph, definitions of links, a
 /// list or code for each span of its lines (Go Doc Comments). It takes a number of steps in
 /// proportion to the length of the text.
+///
+/// # Errors
+///
+/// `NoMemory` where an allocation is refused.
 pub fn blocks(alloc: Global, text: &str) -> Mem<Seq<Block>>
     ensures { IfOk result (λ blocks. blocks ≡ blocks_of text.now) }
 {

@@ -1,17 +1,24 @@
-//! Doc comments (Go Doc Comments): the group of comments that documents a declaration, its text,
-//! and the blocks that the text consists of.
+//! Doc comments: the group of comments that documents a declaration, its text, and the blocks that
+//! the text consists of (Go Doc Comments).
+//!
+//! ```
+//! if let Some(range) = doc_group(&scanned, line) {
+//!     let comments = &scanned.comments.as_slice()[range.first as usize..range.after as usize];
+//!     let text = comment_text(alloc, source, comments)?;
+//!     let blocks = blocks(alloc, text.as_str())?;
+//! }
+//! ```
 #![tactic(auto)]
 
 mod blank;
 mod block;
+pub mod cutting;
 mod group;
 mod kinds;
 mod laws;
 mod line;
 mod list;
 mod plain;
-#[cfg(test)]
-mod tests;
 mod text;
 
 pub use block::{Block, Item, LinkDef};

@@ -51,7 +51,7 @@ pub fn lines_of(alloc: Global, text: &str) -> Mem<Vec<&str>>
     Ok(lines)
 }
 
-/// How many plain lines stand at the front.
+/// How many plain lines begin a text.
 pub fn plain_len(lines: &[&str]) -> usize
     ensures len { result ≡ prefix_len is_plain (texts lines.now) }
     ensures within { result ≤ length lines.now }
@@ -68,7 +68,7 @@ pub fn plain_len(lines: &[&str]) -> usize
     len
 }
 
-/// How many lines at the front go on an indented span.
+/// How many lines at the beginning continue an indented span.
 pub fn indented_len(lines: &[&str]) -> usize
     ensures len { result ≡ reach (texts lines.now) }
     ensures within { result ≤ length lines.now }
@@ -89,7 +89,7 @@ pub fn indented_len(lines: &[&str]) -> usize
     len
 }
 
-/// The lines behind the first ones.
+/// The lines after the first ones.
 pub fn skip<'a, 'b>(lines: &'a [&'b str], count: usize) -> &'a [&'b str]
     requires { count ≤ length lines.now }
     ensures { result.now ≡ drop count lines.now }

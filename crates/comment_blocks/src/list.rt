@@ -12,20 +12,21 @@ ghost use Rattle.comment_blocks.specs.Texts.{is_blank};
 ghost use Rattle.comment_blocks.specs.LineSteps.{is_filled, is_unmarked, item_at, paragraph_at};
 ghost use Rattle.comment_blocks.specs.LineSteps.{texts};
 
-use crate::blank::{behind, blank_len, cut, trim_front};
+use crate::blank::{blank_len, trim_front};
 use crate::block::Item;
+use crate::cutting::{after, cut};
 use crate::line::{is_blank, skip};
 use go_ast::{Mem, Seq, Txt};
 use std::alloc::Global;
 
-/// What a line has of an item: the digits of its marker, and the text behind it.
+/// What a line has of an item: the digits of its marker, and the text after it.
 #[derive(Clone, Copy)]
 pub struct Marked<'a> {
     number: &'a str,
     text: &'a str,
 }
 
-/// An item's line, where a blank and a text stand behind the marker.
+/// An item's line, where a blank and a text stand after the marker.
 fn marked_with<'a>(number: &'a str, after: &'a str) -> Option<Marked<'a>>
     ensures { MatchOption result (marked_with number.now after.now ≡ None)
         (λ found. marked_with number.now after.now
@@ -45,14 +46,14 @@ fn digit_len(text: &[u8]) -> usize
     text.iter().take_while(|byte| byte.is_ascii_digit()).count()
 }
 
-/// An item's line, by its digits and by what stands behind them.
+/// An item's line, by its digits and by what stands after them.
 fn numbered_with<'a>(number: &'a str, rest: &'a str) -> Option<Marked<'a>>
     ensures { MatchOption result (numbered_with number.now rest.now ≡ None)
         (λ found. numbered_with number.now rest.now
         ≡ Some (record { number = found.number.now; text = found.text.now })) }
 {
     match rest.as_bytes() {
-        [b'.' | b')', ..] => marked_with(number, behind(rest, 1)),
+        [b'.' | b')', ..] => marked_with(number, after(rest, 1)),
         _ => None,
     }
 }
@@ -74,14 +75,14 @@ fn marked_at(line: &str) -> Option<Marked<'_>>
         ≡ Some (record { number = found.number.now; text = found.text.now })) }
 {
     match line.as_bytes() {
-        [b'*' | b'+' | b'-', ..] => marked_with("", behind(line, 1)),
+        [b'*' | b'+' | b'-', ..] => marked_with("", after(line, 1)),
         [b'0'..=b'9', ..] => numbered(line),
         [0xE2, 0x80, 0xA2, ..] => marked_with("", cut(line, 3).1),
         _ => None,
     }
 }
 
-/// What a line has of an item, if it has a marker behind its blanks.
+/// What a line has of an item, if it has a marker after its blanks.
 pub fn marker_of(line: &str) -> Option<Marked<'_>>
     ensures { MatchOption result (marker_of line.now ≡ None)
         (λ found. marker_of line.now
@@ -90,7 +91,7 @@ pub fn marker_of(line: &str) -> Option<Marked<'_>>
     marked_at(trim_front(line))
 }
 
-/// How many lines at the front have no marker.
+/// How many lines at the beginning have no marker.
 fn unmarked_len(lines: &[&str]) -> usize
     ensures len { result ≡ prefix_len is_unmarked (texts lines.now) }
     ensures within { result ≤ length lines.now }
@@ -107,7 +108,7 @@ fn unmarked_len(lines: &[&str]) -> usize
     len
 }
 
-/// How many lines at the front aren't empty.
+/// How many lines at the beginning aren't empty.
 fn filled_len(lines: &[&str]) -> usize
     ensures len { result ≡ prefix_len is_filled (texts lines.now) }
     ensures within { result ≤ length lines.now }
@@ -257,7 +258,7 @@ fn common_blanks(lines: &[&str]) -> usize
     run.len()
 }
 
-/// A line without so many of its blanks, or all where it has fewer.
+/// A line without its first `count` blanks, or without all where it has fewer.
 fn without_blanks(line: &str, count: usize) -> &str
     ensures { result.now ≡ drop (min count (prefix_len is_blank line.now)) line.now }
 {

@@ -1,26 +1,26 @@
 //! What a plain span is: a heading, definitions of links, or a paragraph.
 
 ghost use Rattle.std.specs.Prelude.{◌≡◌, ◌≤◌, ◌<◌, IfOk, MatchOption, None, Some, length, nat_eq};
-ghost use Rattle.std.specs.List.{join_with_byte, last_or, list_any, prefix_len};
-ghost use Rattle.std.specs.Str.{chars};
+ghost use Rattle.std.specs.List.{join_with_byte, list_any, prefix_len};
 ghost use Rattle.go_ast.specs.Characters.{newline};
 ghost use Rattle.comment_blocks.specs.Kinds.{begins_blank, defined_by, definition_behind};
 ghost use Rattle.comment_blocks.specs.Kinds.{definition_in, definition_of, definition_with};
 ghost use Rattle.comment_blocks.specs.Kinds.{definitions_of, has_heading_form, has_known_scheme};
 ghost use Rattle.comment_blocks.specs.Kinds.{has_scheme, heading_after, is_address};
-ghost use Rattle.comment_blocks.specs.Kinds.{is_heading_mark, is_in_brackets, is_name_end};
+ghost use Rattle.comment_blocks.specs.Kinds.{is_heading_mark, is_in_brackets};
 ghost use Rattle.comment_blocks.specs.Kinds.{marked_heading};
 ghost use Rattle.comment_blocks.specs.LineSteps.{texts};
 ghost use Rattle.comment_blocks.specs.Texts.{is_blank};
 
-use crate::blank::{behind, cut, trim_back, trim_front};
+use crate::blank::{trim_back, trim_front};
 use crate::block::LinkDef;
+use crate::cutting::{after, cut, ends_in_name};
 use crate::line::is_blank;
 use go_ast::{Mem, Seq, Txt};
-use go_chars::{is_digit, is_exported, is_letter};
+use go_chars::is_exported;
 use std::alloc::Global;
 
-/// The text of a heading behind its mark, or `None` where there are blanks alone.
+/// The text of a heading after its mark, or `None` where there are blanks alone.
 fn heading_after(text: &str) -> Option<&str>
     ensures { MatchOption result (heading_after text.now ≡ None)
         (λ heading. heading_after text.now ≡ Some heading.now) }
@@ -39,35 +39,19 @@ pub fn marked_heading(line: &str) -> Option<&str>
         (λ heading. marked_heading line.now ≡ Some heading.now) }
 {
     match line.as_bytes() {
-        [b'#', b' ', ..] => heading_after(behind(line, 2)),
+        [b'#', b' ', ..] => heading_after(after(line, 2)),
         _ => None,
     }
 }
 
-/// Whether a byte stands in no heading without a mark.
+/// Whether a line with this byte can't be a heading without a mark.
 fn is_heading_mark(byte: u8) -> bool
     ensures { result ≡ is_heading_mark byte }
 {
     b";:!?+*/=[]{}_^&~%#@<>\"\\.".contains(&byte)
 }
 
-fn last_char(text: &str) -> Option<char>
-    ensures { result ≡ last_or None (chars text.now) }
-{
-    text.chars().last()
-}
-
-/// Whether a text ends with a letter or a digit.
-fn ends_in_name(text: &str) -> bool
-    ensures { result ≡ is_name_end (last_or None (chars text.now)) }
-{
-    match last_char(text) {
-        None => false,
-        Some(c) => is_letter(c) || is_digit(c),
-    }
-}
-
-/// Whether a text has one of the marks that stand in no heading without a mark.
+/// Whether a text has a byte that a heading without a mark can't have.
 fn has_heading_mark(text: &[u8]) -> bool
     ensures { result ≡ list_any is_heading_mark text.now }
 {
@@ -81,14 +65,14 @@ pub fn has_heading_form(line: &str) -> bool
     is_exported(line) && ends_in_name(line) && !has_heading_mark(line.as_bytes())
 }
 
-/// Whether an address begins with a scheme and has something behind it.
+/// Whether an address begins with a scheme and has something after it.
 fn has_scheme(scheme: &str, address: &[u8]) -> bool
     ensures { result ≡ has_scheme scheme.now address.now }
 {
     address.starts_with(scheme.as_bytes()) && scheme.len() < address.len()
 }
 
-/// Whether an address begins with one of the three schemes and has something behind it.
+/// Whether an address begins with one of the three schemes and has something after it.
 fn has_known_scheme(address: &[u8]) -> bool
     ensures { result ≡ has_known_scheme address.now }
 {
@@ -110,7 +94,7 @@ fn is_address(text: &[u8]) -> bool
     has_known_scheme(text) && !has_blank(text)
 }
 
-/// How many bytes at the front of a text are no brackets.
+/// How many bytes at the beginning of a text aren't brackets.
 fn unbracketed_len(text: &[u8]) -> usize
     ensures { result ≡ prefix_len is_in_brackets text.now }
 {
@@ -135,7 +119,7 @@ struct Definition<'a> {
     url: &'a str,
 }
 
-/// A definition, by its text and by what stands behind `]:`.
+/// A definition, by its text and by what stands after `]:`.
 fn defined_by<'a>(text: &'a str, after: &'a str) -> Option<Definition<'a>>
     ensures { MatchOption result (defined_by text.now after.now ≡ None)
         (λ found. defined_by text.now after.now
@@ -149,14 +133,14 @@ fn defined_by<'a>(text: &'a str, after: &'a str) -> Option<Definition<'a>>
     }
 }
 
-/// A definition, by its text and by what stands behind that.
+/// A definition, by its text and by what stands after that.
 fn definition_behind<'a>(text: &'a str, rest: &'a str) -> Option<Definition<'a>>
     ensures { MatchOption result (definition_behind text.now rest.now ≡ None)
         (λ found. definition_behind text.now rest.now
         ≡ Some (record { text = found.text.now; url = found.url.now })) }
 {
     match rest.as_bytes() {
-        [b']', b':', ..] => defined_by(text, behind(rest, 2)),
+        [b']', b':', ..] => defined_by(text, after(rest, 2)),
         _ => None,
     }
 }
@@ -174,7 +158,7 @@ fn definition_with<'a>(text: &'a str, rest: &'a str) -> Option<Definition<'a>>
     }
 }
 
-/// The definition whose text begins behind the opening bracket.
+/// The definition whose text begins after the opening bracket.
 fn definition_in(line: &str) -> Option<Definition<'_>>
     ensures { MatchOption result (definition_in line.now ≡ None)
         (λ found. definition_in line.now
@@ -190,7 +174,7 @@ fn definition_of(line: &str) -> Option<Definition<'_>>
         ≡ Some (record { text = found.text.now; url = found.url.now })) }
 {
     match line.as_bytes() {
-        [b'[', ..] => definition_in(behind(line, 1)),
+        [b'[', ..] => definition_in(after(line, 1)),
         _ => None,
     }
 }

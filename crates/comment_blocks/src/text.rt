@@ -52,7 +52,7 @@ fn begins_word(text: &[u8]) -> bool
     }
 }
 
-/// Whether a text goes on with a word's rest, a colon and another word.
+/// Whether a text continues with a word's rest, a colon and another word.
 fn word_then_colon(text: &[u8]) -> bool
     ensures { result ≡ word_then_colon text.now }
 {
@@ -207,6 +207,10 @@ impl Lines {
 /// carriage returns, and directives; a run of empty lines is made one, and those at both ends go.
 /// It has no newline at its end. The comments stand one after another in the source (Go Doc
 /// Comments).
+///
+/// # Errors
+///
+/// `NoMemory` where an allocation is refused.
 pub fn comment_text(alloc: Global, source: &[u8], comments: &[Comment]) -> Mem<Txt>
     requires { AreCommentsOf source.now comments.now }
     ensures { IfOk result (λ text. text ≡ comment_text_of source.now comments.now) }

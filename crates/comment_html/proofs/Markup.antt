@@ -17,7 +17,8 @@ use Rattle.comment_links.specs.declared.part.Inline.TheVariants.{Link, Plain}
 use Rattle.comment_links.specs.InlinesOf.{inlines_of}
 use Rattle.comment_html.specs.Html.{block_html, code_html, definitions_of, heading_html, html_of}
 use Rattle.comment_html.specs.Html.{inline_html, inlines_html, item_html, link_html}
-use Rattle.comment_html.specs.Html.{list_end, list_html, list_start, paragraph_block_html, value_tag}
+use Rattle.comment_html.specs.Html.{list_end, list_html, list_start, paragraph_block_html}
+use Rattle.comment_html.specs.Html.{value_tag}
 use Rattle.comment_html.specs.Html.{paragraph_html, paragraphs_html}
 use Rattle.comment_html.specs.Parts.{Element, Part, IsMarkup, are_nested, code, end_tag, ends}
 use Rattle.comment_html.specs.Parts.{ends_line, heading, item, links_to, numbered_list}

@@ -52,7 +52,8 @@ address_there scheme (x ∷ xs) after all last ends =
     ∙ ap (λ t. address_of_len (length scheme) (address_len t) text)
     (drop_at scheme (rest ++ after) (length scheme) refl)
     ∙ ap (λ n. address_of_len (length scheme) n text) len
-    ∙ cond-false (length rest == 0) None (Some (self_link (take (length scheme + length rest) text)))
+    ∙ cond-false (length rest == 0) None
+    (Some (self_link (take (length scheme + length rest) text)))
     (ne_eqb (length rest) 0 (λ is. absurd (omega arith)))
     ∙ ap (λ t. Some (self_link t))
     (take_both scheme (rest ++ after) (length rest)
@@ -128,7 +129,8 @@ address_sound before text found answer =
     ⊎_elim
     (λ (yes : ends_in_name before ≡ true).
     let nothing : ◌≡◌ {A = Option Found} None (Some found) =
-    sym (cond-true (ends_in_name before) None (or_else http (or_else https ftp)) yes) ∙ answer in cc)
+    sym (cond-true (ends_in_name before) None (or_else http (or_else https ftp)) yes)
+    ∙ answer in cc)
     (λ (no : ends_in_name before ≡ false).
     either_found http (or_else https ftp) found P
     (sym (cond-false (ends_in_name before) None (or_else http (or_else https ftp)) no) ∙ answer)

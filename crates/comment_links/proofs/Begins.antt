@@ -1,7 +1,8 @@
 -- Where marks may begin, and where they end.
 use Rattle.std.proofs.Common.{◌≡◌, ℕ, zero, suc, ◌+◌, ◌<◌, ◌≤◌, true, false, List, []}
 use Rattle.std.proofs.Common.{◌∷◌, ◌++◌, length, get_or, take, drop, Option, Some, None, refl, sym}
-use Rattle.std.proofs.Common.{◌∙◌, ap, subst, arith, ⊎_elim, ◌==◌, ◌||◌, ◌&&◌, if◌then◌else◌, IsUtf8}
+use Rattle.std.proofs.Common.{◌∙◌, ap, subst, arith, ⊎_elim, ◌==◌, ◌||◌, ◌&&◌, if◌then◌else◌}
+use Rattle.std.proofs.Common.{IsUtf8}
 use Rattle.std.specs.List.{last_or, list_all}
 use Rattle.std.specs.Str.{IsCharBoundary}
 use Rattle.std.proofs.lemmas.Bool.{and_left, and_parts, cases_lt, cond-false}

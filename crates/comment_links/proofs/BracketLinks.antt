@@ -133,7 +133,8 @@ doc_with_sides address_of before body after found free answer =
     sym (cond-true sides None link yes) ∙ answer in cc)
     (λ (no : sides ≡ false).
     let parts = or_parts (ends_in_name before) (begins_in_name after) no in
-    doc_with_address address_of before body after (address_of (without_star body)) found free parts.0
+    doc_with_address address_of before body after (address_of (without_star body)) found free
+    parts.0
     parts.1 refl (sym (cond-false sides None link no) ∙ answer))
     (cases_Bool sides)
 

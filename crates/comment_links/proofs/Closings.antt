@@ -49,7 +49,8 @@ prefix_behind p (x ∷ xs) (suc k) within = ⊎_elim
     let rest = prefix_behind p xs k (omega (arith, one)) in
     omega (arith, one, rest))
     (λ (isnt : p x ≡ false).
-    let none : suc k ≤ 0 = subst (λ t. suc k ≤ cond {A = ℕ} t (1 + prefix_len p xs) 0) isnt within in
+    let none : suc k ≤ 0 = subst (λ t. suc k ≤ cond {A = ℕ} t (1 + prefix_len p xs) 0) isnt
+    within in
     absurd (omega arith))
     (cases_Bool (p x))
 

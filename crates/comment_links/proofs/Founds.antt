@@ -125,7 +125,11 @@ module _ (links : List LinkDef) (address_of : List ℕ → Option (List ℕ)) wh
   unfolding found_at
   defined_there mark is =
       let tail = is.text ++ 93 ∷ mark.after in
-      let link : Found = record { inline = inlines.Link is.text is.url; len = length is.text + 2 } in
+      let link : Found = record {
+        inline = inlines.Link is.text is.url;
+        len =
+            length is.text + 2;
+      } in
       let at : found_at links address_of mark.before (91 ∷ tail) ≡ Some link =
       ap (λ o. or_else o (doc_link address_of mark.before tail))
       (defined_found links is.text is.url mark.after is.no_bracket is.defined) in
@@ -140,7 +144,11 @@ module _ (links : List LinkDef) (address_of : List ℕ → Option (List ℕ)) wh
   unfolding found_at
   doc_there mark none is =
       let tail = is.body ++ 93 ∷ mark.after in
-      let link : Found = record { inline = inlines.Link is.body is.href; len = length is.body + 2 } in
+      let link : Found = record {
+        inline = inlines.Link is.body is.href;
+        len =
+            length is.body + 2;
+      } in
       let whole : mark.written ++ mark.after ≡ 91 ∷ tail =
       ap (λ t. t ++ mark.after) is.written ∙ bracket_whole is.body mark.after in
       let undefined : defined_link links tail ≡ None =

@@ -6,7 +6,6 @@ mod BracketLinks
 mod Closings
 mod Founds
 mod Halves
-mod LastChars
 mod Lists
 mod Spaces
 mod Steps

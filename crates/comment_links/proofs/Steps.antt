@@ -134,6 +134,7 @@ module _ (links : List LinkDef) (address_of : List ℕ → Option (List ℕ)) (t
       let count = to - from in
       let end : from + count ≡ to = omega arith in
       plain_steps count from (omega arith) (λ k le lt. none k le (omega (arith, end)))
-      ∙ ap (λ n. with_plain (take count (drop from text)) (inlines_from links address_of text n)) end
+      ∙ ap (λ n. with_plain (take count (drop from text)) (inlines_from links address_of text n))
+      end
       ∙ ap (λ t. with_plain t (inlines_from links address_of text to))
       (sym (drop-take from count text) ∙ ap (λ n. drop from (take n text)) end)

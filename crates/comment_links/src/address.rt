@@ -6,11 +6,11 @@ ghost use Rattle.comment_links.specs.InlinesOf.{address_at, address_by, address_
 
 use crate::found::Found;
 use crate::part::Inline;
-use crate::text::ends_in_name;
+use comment_blocks::cutting::ends_in_name;
 use go_ast::{Mem, Txt};
 use std::alloc::Global;
 
-/// Whether an address may have a byte behind its scheme.
+/// Whether an address may have a byte after its scheme.
 fn is_address_byte(byte: u8) -> bool
     ensures { result ≡ is_address_byte byte }
 {
@@ -24,7 +24,7 @@ fn is_final(byte: u8) -> bool
     b".,:;?!".contains(&byte)
 }
 
-/// How many bytes of an address stand at the front: those up to the last that isn't final.
+/// How many bytes of an address begin it: those up to the last that isn't final.
 fn address_len(text: &[u8]) -> usize
     ensures len { result ≡ address_len text.now }
     ensures within { result ≤ length text.now }
@@ -57,7 +57,7 @@ fn self_link(alloc: Global, address: &str) -> Mem<Found>
     })
 }
 
-/// The address at the front of a text, if it begins with a scheme.
+/// The address at the beginning of a text, if it begins with a scheme.
 fn address_by(alloc: Global, scheme: &str, text: &str) -> Mem<Option<Found>>
     ensures { IfOk result (λ found. found ≡ address_by scheme.now text.now) }
 {
@@ -71,7 +71,7 @@ fn address_by(alloc: Global, scheme: &str, text: &str) -> Mem<Option<Found>>
     Ok(Some(self_link(alloc, &text[..scheme.len() + len])?))
 }
 
-/// The address at the front of a text, by what stands before it.
+/// The address at the beginning of a text, by what stands before it.
 pub fn address_at(alloc: Global, before: &str, text: &str) -> Mem<Option<Found>>
     ensures { IfOk result (λ found. found ≡ address_at before.now text.now) }
 {

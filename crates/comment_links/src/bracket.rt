@@ -11,7 +11,8 @@ use crate::definitions::Definitions;
 use crate::found::Found;
 use crate::names::Names;
 use crate::part::Inline;
-use crate::text::{begins_in_name, behind_first, cut, ends_in_name};
+use crate::text::begins_in_name;
+use comment_blocks::cutting::{after, cut, ends_in_name};
 use go_ast::{Mem, Txt};
 use std::alloc::Global;
 
@@ -27,7 +28,7 @@ fn bracket_link(alloc: Global, text: &str, href: Txt) -> Mem<Found>
     })
 }
 
-/// How many bytes at the front are no brackets.
+/// How many bytes at the beginning aren't brackets.
 fn unbracketed_len(text: &[u8]) -> usize
     ensures { result ≡ prefix_len is_in_brackets text.now }
 {
@@ -50,7 +51,7 @@ fn defined_with(alloc: Global, text: &str, definitions: &Definitions) -> Mem<Opt
     }
 }
 
-/// The defined link whose text begins behind the opening bracket.
+/// The defined link whose text begins after the opening bracket.
 pub fn defined_link(alloc: Global, tail: &str, definitions: &Definitions) -> Mem<Option<Found>>
     ensures { IfOk result (λ found. found ≡ defined_link definitions.now tail.now) }
 {
@@ -66,12 +67,12 @@ fn without_star(body: &str) -> &str
     ensures { result.now ≡ without_star body.now }
 {
     match body.as_bytes() {
-        [b'*', ..] => behind_first(body),
+        [b'*', ..] => after(body, 1),
         _ => body,
     }
 }
 
-/// The doc link with a body, by what stands before it and behind it.
+/// The doc link with a body, by what stands before and after it.
 fn doc_with<N: Names>(
     alloc: Global,
     before: &str,
@@ -91,7 +92,7 @@ fn doc_with<N: Names>(
     }
 }
 
-/// The doc link whose body begins behind the opening bracket, by the length of the body.
+/// The doc link whose body begins after the opening bracket, by the length of the body.
 pub fn doc_link<N: Names>(
     alloc: Global,
     before: &str,
@@ -104,7 +105,7 @@ pub fn doc_link<N: Names>(
 {
     let (body, rest) = cut(tail, len);
     match rest.as_bytes() {
-        [b']', ..] => doc_with(alloc, before, body, behind_first(rest), names),
+        [b']', ..] => doc_with(alloc, before, body, after(rest, 1), names),
         _ => Ok(None),
     }
 }

@@ -1,5 +1,12 @@
-//! The links in a comment's text (Go Doc Comments, "Links" and "Doc links"): defined links, doc
-//! links, addresses, and quotes.
+//! The links in the text of a comment: defined links, doc links, addresses, and quotes (Go Doc
+//! Comments, "Links" and "Doc links").
+//!
+//! ```
+//! let definitions = Definitions::new(alloc, links)?;
+//! for part in definitions.inlines(alloc, "See [Go].", &names)?.as_slice() {
+//!     if let Inline::Link { text, href } = part {}
+//! }
+//! ```
 #![tactic(auto)]
 
 mod address;
@@ -12,8 +19,6 @@ mod names;
 mod part;
 mod parts;
 mod reading;
-#[cfg(test)]
-mod tests;
 mod text;
 
 pub use definitions::Definitions;

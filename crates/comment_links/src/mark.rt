@@ -12,7 +12,7 @@ use crate::definitions::Definitions;
 use crate::found::Found;
 use crate::names::Names;
 use crate::part::Inline;
-use crate::text::{behind_first, cut};
+use comment_blocks::cutting::{after, cut};
 use go_ast::{Mem, Txt};
 use std::alloc::Global;
 
@@ -33,7 +33,7 @@ fn quote(alloc: Global, text: &str) -> Mem<Option<Found>>
     }))
 }
 
-/// The quote at the front of a text.
+/// The quote at the beginning of a text.
 fn quote_at(alloc: Global, text: &[u8]) -> Mem<Option<Found>>
     ensures { IfOk result (λ found. found ≡ quote_at text.now) }
 {
@@ -44,7 +44,7 @@ fn quote_at(alloc: Global, text: &[u8]) -> Mem<Option<Found>>
     }
 }
 
-/// The link whose text begins behind the opening bracket, by what stands before the bracket and the
+/// The link whose text begins after the opening bracket, by what stands before the bracket and the
 /// number of bytes before the next closing one.
 fn bracketed<N: Names>(
     alloc: Global,
@@ -85,7 +85,7 @@ pub fn found_at<N: Names>(
     match rest.as_bytes() {
         [b'[', ..] => {
             let len = closing - place - 1;
-            bracketed(alloc, before, behind_first(rest), len, definitions, names)
+            bracketed(alloc, before, after(rest, 1), len, definitions, names)
         }
         [b'h' | b'f', ..] => address_at(alloc, before, rest),
         _ => quote_at(alloc, rest.as_bytes()),

@@ -3,7 +3,7 @@
 use go_ast::Txt;
 
 /// A part of a text.
-#[derive(Debug, Drop)]
+#[derive(Drop)]
 pub enum Inline {
     /// Plain text.
     Plain(Txt),

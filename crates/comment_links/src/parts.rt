@@ -1,4 +1,4 @@
-//! Inlines that grow by what stands behind them.
+//! Inlines that grow by what stands after them.
 
 ghost use Rattle.std.specs.Prelude.{◌≡◌, ◌++◌, IfOk, OnOk, []};
 ghost use Rattle.comment_links.specs.InlineSteps.{nothing, whole, with_part, with_text};
@@ -9,7 +9,7 @@ use std::alloc::Global;
 use std::marker::Model;
 use std::mem;
 
-/// Inlines, and the plain text behind them, which may still grow.
+/// Inlines, and the plain text after them, which may still grow.
 #[derive(Drop)]
 pub struct Parts {
     done: Seq<Inline>,

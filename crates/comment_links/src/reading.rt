@@ -129,7 +129,7 @@ impl<'a> Definitions<'a> {
 /// The inlines of a text: its links, and the plain text between them with its quotes (Go Doc
 /// Comments, "Links" and "Doc links"). At each place the first of these rules counts: `[text]`,
 /// where the text is defined, `[body]`, where the names have an address of the body, an address, a
-/// quote; and of all marks the leftmost behind the one before. Two neighbours are never both plain
+/// quote; and of all marks the leftmost after the one before. Two neighbours are never both plain
 /// text. What a rule looks for ahead is looked for once, so the number of steps is in proportion to
 /// the length of the text, but for what the names do with a body and for looking up what stands in
 /// brackets.

@@ -4,7 +4,8 @@ use Rattle.std.specs.Prelude.{Option, Some, None}
 use Rattle.const_eval.specs.Values.{◌|>◌}
 
 -- where two steps give something, so does the first
-pub bind_some : {A B : Type 0} (o : Option A) (f : A → Option B) (b : B) → (o |> f) ≡ Some b → (a : A) × (o ≡ Some a) × (f a ≡ Some b)
+pub bind_some : {A B : Type 0} (o : Option A) (f : A → Option B) (b : B) → (o |> f) ≡ Some b
+    → (a : A) × (o ≡ Some a) × (f a ≡ Some b)
 bind_some None f b p = cc
 bind_some (Some a) f b p = (a, refl, p)
 

@@ -1,5 +1,6 @@
 -- The value of a few digits is small.
-use Rattle.std.proofs.Common.{◌≡◌, ℕ, ◌+◌, ◌*◌, ◌^◌, ◌≤◌, ◌<◌, List, length, drop, get_or, ap, arith, pow-suc, mul-le-mul_left}
+use Rattle.std.proofs.Common.{◌≡◌, ℕ, ◌+◌, ◌*◌, ◌^◌, ◌≤◌, ◌<◌, List, length, drop, get_or, ap}
+use Rattle.std.proofs.Common.{arith, pow-suc, mul-le-mul_left}
 use Rattle.std.proofs.Math.Nat.{pow-le-pow_right, one-le-pow}
 use Rattle.std.proofs.lemmas.List.{drop_more}
 use Rattle.std.specs.Char.{digit_value}
@@ -14,10 +15,12 @@ one_digit i v base d small low digit =
 
 pub digits_fit : (i n : ℕ) → i < 8 → n ≤ 64 ^ (i + 1) → n < 2 ^ 64
 digits_fit i n few small =
-    let high : 64 ^ (i + 1) ≤ 64 ^ 8 = pow-le-pow_right {n = 64} (omega arith) {i = i + 1} {j = 8} (omega arith) in
+    let high : 64 ^ (i + 1) ≤ 64 ^ 8 = pow-le-pow_right {n = 64} (omega arith) {i = i + 1} {j = 8}
+    (omega arith) in
     let top : 64 ^ 8 < 2 ^ 64 = omega arith in
     omega arith
 
 pub value_step : (base value : ℕ) (digits : List ℕ) (i : ℕ) → i < length digits
-    → value_after base value (drop i digits) ≡ value_after base (value * base + digit_value (get_or digits i 0)) (drop (i + 1) digits)
+    → value_after base value (drop i digits) ≡ value_after base
+    (value * base + digit_value (get_or digits i 0)) (drop (i + 1) digits)
 value_step base value digits i within = ap (value_after base value) (drop_more digits i 0 within)

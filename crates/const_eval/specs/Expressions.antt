@@ -2,7 +2,8 @@
 -- Specification, "Expressions", "Operators", "Operator precedence"): a tree, a printer from the
 -- tree to the texts of its tokens, a fact that says which trees are valid, and what a tree is
 -- worth.
-use Rattle.std.specs.Prelude.{◌≡◌, ℕ, suc, ◌≤◌, max, Bool, true, false, ◌||◌, List, [], ◌∷◌, ◌++◌, codes, ◌==◌, IsTrue, Some, ℤ, pos}
+use Rattle.std.specs.Prelude.{◌≡◌, ℕ, suc, ◌≤◌, max, Bool, true, false, ◌||◌, List, [], ◌∷◌, ◌++◌}
+use Rattle.std.specs.Prelude.{codes, ◌==◌, IsTrue, Some, ℤ, pos}
 use Rattle.std.specs.Char.{is_ascii_digit}
 use Rattle.go_ast.specs.Characters.{single_quote}
 use Rattle.go_ast.specs.Numbers.{Integer, print_integer, is_integer}
@@ -11,7 +12,8 @@ use Rattle.const_eval.specs.declared.operator.Operator.{Operator}
 use Rattle.const_eval.specs.declared.lexeme.Lexeme.TheVariants as l
 use Rattle.const_eval.specs.Lexemes.{lexeme_of}
 use Rattle.const_eval.specs.Literals.{integer_value, print_rune, element_value}
-use Rattle.const_eval.specs.Operators.{print_operator, is_unary, is_multiplying, within, unary_value, binary_value}
+use Rattle.const_eval.specs.Operators.{print_operator, is_unary, is_multiplying, within}
+use Rattle.const_eval.specs.Operators.{unary_value, binary_value}
 
 pub data Expression : Type 0 where
   -- a literal or a name

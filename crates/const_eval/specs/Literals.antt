@@ -3,7 +3,8 @@
 use Rattle.std.specs.Prelude.{ℕ, ◌||◌, List, [], ◌∷◌, ◌++◌, map, if◌then◌else◌, ◌==◌}
 use Rattle.go_ast.specs.Characters.{single_quote}
 use Rattle.go_ast.specs.Numbers.{Digit, digit, separated, Integer, lone_zero, decimal, octal, based}
-use Rattle.go_ast.specs.Texts.{Element, character, escape, octal_escape, hexadecimal_escape, print_element, value_of}
+use Rattle.go_ast.specs.Texts.{Element, character, escape, octal_escape, hexadecimal_escape}
+use Rattle.go_ast.specs.Texts.{print_element, value_of}
 
 -- a digit without the "_" before it
 abbrev pub plain_digit : Digit → ℕ

@@ -1,7 +1,8 @@
 -- Cited by public clauses. Operators on integers (The Go Programming Language Specification,
 -- "Operators", "Arithmetic operators", "Integer operators"). Each result lies between -2^127 and
 -- 2^127 - 1, or there is none.
-use Rattle.std.specs.Prelude.{ℕ, zero, ◌^◌, Bool, true, false, List, codes, if◌then◌else◌, nat_le, nat_lt, Option, Some, None, ℤ, pos, negsuc, neg_ℤ, ◌+ℤ◌, ◌-ℤ◌, ◌*ℤ◌}
+use Rattle.std.specs.Prelude.{ℕ, zero, ◌^◌, Bool, true, false, List, codes, if◌then◌else◌, nat_le}
+use Rattle.std.specs.Prelude.{nat_lt, Option, Some, None, ℤ, pos, negsuc, neg_ℤ, ◌+ℤ◌, ◌-ℤ◌, ◌*ℤ◌}
 use Rattle.std.specs.Int.{int_bit_and, int_bit_or, int_bit_xor, int_shr, w128}
 use Rattle.std.specs.Int.RustNames.{int_div, int_rem}
 use Rattle.const_eval.specs.declared.operator.Operator.{Operator}

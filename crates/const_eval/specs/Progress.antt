@@ -1,5 +1,7 @@
 -- Cited by private clauses and proofs. How far the constants' values are found.
-use Rattle.std.specs.Prelude.{◌≡◌, ℕ, suc, ◌<◌, List, [], ◌∷◌, Bool, true, false, Option, Some, None, is_some, option_map, unwrap_or, if◌then◌else◌, ◌==◌, sum_by, slice_index_or, String, ℤ, pos, negsuc}
+use Rattle.std.specs.Prelude.{◌≡◌, ℕ, suc, ◌<◌, List, [], ◌∷◌, Bool, true, false, Option, Some}
+use Rattle.std.specs.Prelude.{None, is_some, option_map, unwrap_or, if◌then◌else◌, ◌==◌, sum_by}
+use Rattle.std.specs.Prelude.{slice_index_or, String, ℤ, pos, negsuc}
 use Rattle.std.specs.BTreeMap.{BTreeMap, get_by_text}
 use Rattle.std.specs.declared.alloc.Global.{Global}
 use Rattle.std.specs.Str.{bytes_eq}

@@ -1,12 +1,14 @@
 -- Cited by private clauses and proofs. The values of literals by their bytes, from the left to the
 -- right.
-use Rattle.std.specs.Prelude.{ℕ, ◌+◌, ◌*◌, Bool, true, false, List, [], ◌∷◌, length, if◌then◌else◌, ◌==◌, Option, Some, None, option_map, ℤ, pos, codes}
+use Rattle.std.specs.Prelude.{ℕ, ◌+◌, ◌*◌, Bool, true, false, List, [], ◌∷◌, length, if◌then◌else◌}
+use Rattle.std.specs.Prelude.{◌==◌, Option, Some, None, option_map, ℤ, pos, codes}
 use Rattle.std.specs.Int.{is_in_range}
 use Rattle.std.specs.Char.{digit_value, is_digit, len_utf8}
 use Rattle.std.specs.Str.{bytes_eq, chars, is_utf8}
 use Rattle.go_ast.specs.Characters.{underscore, single_quote, backslash, digit_zero}
 use Rattle.go_ast.specs.Numbers.{is_prefix_letter}
-use Rattle.go_ast.specs.Texts.{is_unquoted, is_escape_mark, is_octal_escape, is_hexadecimal_escape, value_of}
+use Rattle.go_ast.specs.Texts.{is_unquoted, is_escape_mark, is_octal_escape, is_hexadecimal_escape}
+use Rattle.go_ast.specs.Texts.{value_of}
 use Rattle.const_eval.specs.Literals.{base_of, escape_value}
 use Rattle.const_eval.specs.Operators.{within}
 use Rattle.const_eval.specs.Values.{◌|>◌}

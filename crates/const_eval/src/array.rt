@@ -3,7 +3,7 @@
 use plain_data::Txt;
 
 /// The length of an array type.
-#[derive(Debug, Drop)]
+#[derive(Drop)]
 pub enum Length {
     /// The value of the constant expression, where it has one of at least 0.
     Known(u128),

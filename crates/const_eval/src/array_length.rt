@@ -78,6 +78,10 @@ fn joined(alloc: Global, source: &[u8], tokens: &[Token]) -> Mem<Vec<u8>>
 /// The length that the tokens of a run give an array (Go specification, "Array types"): the value
 /// of the constant expression that they are, where it has one of at least 0, and else their texts.
 /// Every intermediate value lies between -2^127 and 2^127 - 1.
+///
+/// # Errors
+///
+/// `NoMemory` where an allocation is refused.
 pub fn length(
     alloc: Global,
     source: &[u8],

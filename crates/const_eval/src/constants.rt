@@ -5,7 +5,8 @@ ghost use Rattle.std.specs.BTreeMap.{get_by_text};
 ghost use Rattle.const_eval.specs.Machine.{state_of};
 ghost use Rattle.const_eval.specs.Names.{names_of};
 ghost use Rattle.const_eval.specs.Constants.{IsConstant, Gives};
-ghost use Rattle.const_eval.specs.Progress.{run_value, news_from, AreCounts, IsKnown, Attempts, Passes};
+ghost use Rattle.const_eval.specs.Progress.{run_value, news_from, AreCounts, IsKnown, Attempts};
+ghost use Rattle.const_eval.specs.Progress.{Passes};
 
 use crate::machine::Machine;
 use crate::names::{Names, Values};
@@ -14,7 +15,7 @@ use std::alloc::Global;
 use std::collections::BTreeMap;
 
 /// A name that a constant declaration declares (Go specification, "Constant declarations").
-#[derive(Debug, Drop)]
+#[derive(Drop)]
 pub struct ConstFact {
     /// The name.
     pub name: Txt,
@@ -123,7 +124,7 @@ fn learn_all(alloc: Global, facts: &[ConstFact], counts: &Counts, values: &mut V
 }
 
 /// A step of the search for an order in which each constant stands after those that it names.
-#[derive(Clone, Copy, Debug)]
+#[derive(Clone, Copy)]
 enum Task {
     /// Those that the constant at a place names come first.
     Enter(usize),
@@ -204,6 +205,10 @@ fn learn_in_order(
 impl Constants {
     /// What the constants of a package are worth. Each is evaluated once after those that it
     /// names, and those that then have no value once more.
+    ///
+    /// # Errors
+    ///
+    /// `NoMemory` where an allocation is refused.
     pub fn make(alloc: Global, specs: &[ConstFact]) -> Mem<Constants>
         ensures { IfOk result (λ constants. (name : List ℕ) (number : ℤ)
             → Gives constants name number ↔ IsConstant specs.now name number) }

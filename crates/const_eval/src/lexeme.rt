@@ -1,4 +1,4 @@
-//! Tokens as expressions tell them apart.
+//! The kinds of tokens in an expression.
 
 ghost use Rattle.std.specs.Prelude.{◌≡◌};
 ghost use Rattle.std.specs.Str.{bytes_eq};
@@ -7,7 +7,7 @@ ghost use Rattle.const_eval.specs.Lexemes.{lexeme_of};
 use crate::operator::Operator;
 
 /// What a token is to an expression.
-#[derive(Clone, Copy, Debug, PartialEq, Eq)]
+#[derive(Clone, Copy)]
 pub enum Lexeme {
     /// `(`.
     Open,

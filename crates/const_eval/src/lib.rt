@@ -1,4 +1,13 @@
-//! Values of Go constants that are integers, and the lengths of arrays that they give.
+//! The values of Go constants that are integers, and the lengths of arrays that they give (The Go
+//! Programming Language Specification, "Constant expressions", "Array types").
+//!
+//! ```
+//! let consts = Constants::make(alloc, facts.as_slice())?;
+//! match length(alloc, source, &scanned, run, &consts)? {
+//!     Length::Known(number) => {}
+//!     Length::AsText(text) => {}
+//! }
+//! ```
 #![tactic(auto)]
 
 mod array;
@@ -10,8 +19,6 @@ mod literal;
 mod machine;
 mod names;
 mod operator;
-#[cfg(test)]
-mod tests;
 mod value;
 
 pub use array::Length;

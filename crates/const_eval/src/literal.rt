@@ -7,9 +7,13 @@ ghost use Rattle.std.specs.Char.{is_ascii_hexdigit};
 ghost use Rattle.std.specs.Str.{chars};
 ghost use Rattle.go_ast.specs.Characters.{single_quote};
 ghost use Rattle.go_ast.specs.Numbers.{is_octal_digit, is_prefix_letter};
-ghost use Rattle.go_ast.specs.Texts.{is_escape_mark, value_of, is_octal_escape, is_scalar, is_coded, is_hexadecimal_escape};
+ghost use Rattle.go_ast.specs.Texts.{is_escape_mark, value_of, is_octal_escape, is_scalar};
+ghost use Rattle.go_ast.specs.Texts.{is_coded, is_hexadecimal_escape};
 ghost use Rattle.const_eval.specs.Literals.{base_of, escape_value};
-ghost use Rattle.const_eval.specs.Reading.{read_digits, read_based, read_after_zero, read_integer, read_escape, only_character, read_character, read_element, before_quote, read_rune, read_literal, as_number};
+ghost use Rattle.const_eval.specs.Reading.{read_digits, read_based, read_after_zero, read_integer};
+ghost use Rattle.const_eval.specs.Reading.{read_escape, only_character, read_character};
+ghost use Rattle.const_eval.specs.Reading.{read_element, before_quote, read_rune, read_literal};
+ghost use Rattle.const_eval.specs.Reading.{as_number};
 ghost use Rattle.const_eval.specs.Values.{◌|>◌};
 ghost use Rattle.const_eval.specs.Expressions.{begins_literal};
 
@@ -201,7 +205,7 @@ fn is_octal_escape(digits: &[u8]) -> bool
     digits.len() == 3 && are_octal(digits) && value_of(8, digits) < 256
 }
 
-/// Whether so many digits may follow this letter, and name a scalar value where they have to.
+/// Whether these digits may follow this letter, and denote a scalar value where they have to.
 fn is_coded(letter: u8, digits: &[u8]) -> bool
     ensures { result ≡ is_coded letter digits.now }
 {

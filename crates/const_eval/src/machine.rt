@@ -1,7 +1,8 @@
 //! The evaluation of an expression, token by token.
 
 ghost use Rattle.std.specs.Prelude.{◌≡◌, [], ◌∷◌, reverse, IfOk, OnOk, MatchOption, None, Some};
-ghost use Rattle.const_eval.specs.Machine.{values, arrive, settle, close, go_on, begin, step, finish, having, left_of, state_of, AreWithin, Steps};
+ghost use Rattle.const_eval.specs.Machine.{values, arrive, settle, close, go_on, begin, step};
+ghost use Rattle.const_eval.specs.Machine.{finish, having, left_of, state_of, AreWithin, Steps};
 ghost use Rattle.const_eval.specs.Lexemes as lexemes;
 ghost use Rattle.const_eval.specs.Values.{◌|>◌};
 ghost use Rattle.const_eval.specs.Names.{names_of};
@@ -15,7 +16,7 @@ use plain_data::Mem;
 use std::alloc::Global;
 
 /// What waits for its operand.
-#[derive(Clone, Copy, Debug)]
+#[derive(Clone, Copy)]
 pub enum Frame<X> {
     /// An opening bracket.
     Open,
@@ -29,7 +30,7 @@ pub enum Frame<X> {
 
 /// An evaluation on its way: what waits, the innermost last, and the operand before the next token,
 /// where there is one.
-#[derive(Debug, Drop)]
+#[derive(Drop)]
 pub struct Machine {
     pub frames: Vec<Frame<Value>>,
     pub operand: Option<Value>,

@@ -3,10 +3,11 @@
 ghost use Rattle.std.specs.Prelude.{◌≡◌, ◌≤ℤ◌, pos};
 ghost use Rattle.std.specs.Int.{int_shr};
 ghost use Rattle.std.specs.Int.RustNames.{int_rem};
-ghost use Rattle.const_eval.specs.Operators.{is_unary, is_multiplying, unary_value, binary_value, divided, shifted, times_power};
+ghost use Rattle.const_eval.specs.Operators.{is_unary, is_multiplying, unary_value, binary_value};
+ghost use Rattle.const_eval.specs.Operators.{divided, shifted, times_power};
 
 /// An operator on integers (Go specification, "Operators").
-#[derive(Clone, Copy, Debug, PartialEq, Eq)]
+#[derive(Clone, Copy)]
 pub enum Operator {
     /// `+`.
     Add,

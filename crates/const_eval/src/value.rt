@@ -9,7 +9,7 @@ use crate::operator::Operator;
 const MAX_LEVELS: u32 = 100;
 
 /// The value of an expression.
-#[derive(Clone, Copy, Debug, PartialEq, Eq)]
+#[derive(Clone, Copy)]
 pub struct Value {
     /// The number.
     pub number: i128,

@@ -1,6 +1,9 @@
 -- Cited by public clauses. What the documentation of a package lists, where and in which order
 -- (after Go's package go/doc).
-use Rattle.std.specs.Prelude.{◌≡◌, ◌↔◌, ℕ, ◌*◌, ◌/◌, Bool, true, false, ◌&&◌, not, List, [], ◌∷◌, length, map, filter, filter_map, position, Option, Some, None, is_some, option_and_then, nat_le, nat_eq, slice_get, if◌then◌else◌, All, AllPairs, Contains, IsTrue}
+use Rattle.std.specs.Prelude.{◌≡◌, ◌↔◌, ℕ, ◌*◌, ◌/◌, Bool, true, false, ◌&&◌, not, List, [], ◌∷◌}
+use Rattle.std.specs.Prelude.{length, map, filter, filter_map, position, Option, Some, None}
+use Rattle.std.specs.Prelude.{is_some, option_and_then, nat_le, nat_eq, slice_get, if◌then◌else◌}
+use Rattle.std.specs.Prelude.{All, AllPairs, Contains, IsTrue}
 use Rattle.std.specs.List.{list_all, list_any}
 use Rattle.std.specs.Option.{option_eq, option_map_or}
 use Rattle.std.specs.Ordering.{nat_cmp, ordering_then}
@@ -11,7 +14,8 @@ use Rattle.go_chars.specs.Identifiers.{is_exported}
 use Rattle.doc_order.specs.declared.members.Member.{Member}
 use Rattle.doc_order.specs.declared.members.Member.TheVariants.{Value, TypeDef, Func, Method}
 use Rattle.doc_order.specs.declared.members.Kind.{Kind}
-use Rattle.doc_order.specs.declared.members.Kind.TheVariants.{Constants, Variables, Functions, Types, Methods}
+use Rattle.doc_order.specs.declared.members.Kind.TheVariants.{Constants, Variables, Functions}
+use Rattle.doc_order.specs.declared.members.Kind.TheVariants.{Types, Methods}
 use Rattle.doc_order.specs.declared.members.SpecFact.{SpecFact}
 use Rattle.doc_order.specs.declared.members.DocPackage.{DocPackage}
 use Rattle.doc_order.specs.declared.members.DocType.{DocType}

@@ -1,15 +1,18 @@
 -- Cited by private clauses and proofs. How the program fills the lists: a type has a slot in a
 -- sorted list of names, and the numbers of the members are put at the ends of the lists, one after
 -- the other. The project's own.
-use Rattle.std.specs.Prelude.{◌≡◌, ℕ, zero, suc, Bool, false, List, [], ◌∷◌, ◌++◌, position, Option, Some, None, slice_get, if◌then◌else◌}
+use Rattle.std.specs.Prelude.{◌≡◌, ℕ, zero, suc, Bool, false, List, [], ◌∷◌, ◌++◌, position, Option}
+use Rattle.std.specs.Prelude.{Some, None, slice_get, if◌then◌else◌}
 use Rattle.std.specs.Option.{option_map_or}
 use Rattle.std.specs.Str.{bytes_eq}
 use Rattle.doc_order.specs.declared.members.Member.{Member}
 use Rattle.doc_order.specs.declared.members.Member.TheVariants.{TypeDef}
 use Rattle.doc_order.specs.declared.members.Kind.{Kind}
-use Rattle.doc_order.specs.declared.members.Kind.TheVariants.{Constants, Variables, Functions, Types, Methods}
+use Rattle.doc_order.specs.declared.members.Kind.TheVariants.{Constants, Variables, Functions}
+use Rattle.doc_order.specs.declared.members.Kind.TheVariants.{Types, Methods}
 use Rattle.doc_order.specs.declared.members.DocType.{DocType}
-use Rattle.doc_order.specs.Documentation.{Name, at_number, is_exported_name, is_shown, kind_of, place_of}
+use Rattle.doc_order.specs.Documentation.{Name, at_number, is_exported_name, is_shown, kind_of}
+use Rattle.doc_order.specs.Documentation.{place_of}
 
 -- the first slot with a name
 abbrev pub slot_of : List Name → Name → Option ℕ

@@ -3,13 +3,14 @@
 ghost use Rattle.std.specs.Prelude.{◌≡◌, ℕ, false, None, Option, Some, IsTrue};
 ghost use Rattle.doc_order.specs.declared.members.Kind.{Kind};
 ghost use Rattle.doc_order.specs.declared.members.Kind.TheVariants.{Methods, Types};
-ghost use Rattle.doc_order.specs.Documentation.{at_number, is_shown, kind_of, place_of, stands_in, type_of};
+ghost use Rattle.doc_order.specs.Documentation.{at_number, is_shown, kind_of, place_of, stands_in};
+ghost use Rattle.doc_order.specs.Documentation.{type_of};
 
 use crate::members::Member;
 
 /// Each member that is shown stands in exactly one list: that of its kind in its place, which is
 /// the package or a type that is itself listed. Methods stand under types alone. So each member
-/// that is shown is listed, and once, since the numbers of a list rise strictly.
+/// that is shown is listed, and once, since the numbers of a list are sorted strictly ascending.
 pub fn shown_members_stand_in_one_list(members: &[Member], member: &Member)
     ensures somewhere { let types = type_of members.now in
         IsTrue (is_shown types member.now)

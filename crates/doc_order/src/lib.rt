@@ -1,7 +1,15 @@
 //! The order of a package's documentation: which declarations it lists, where, and in which order
 //! (after Go's package `go/doc`).
 //!
-//! `specs/Documentation.antt` says what each list holds.
+//! `specs/Documentation.antt` says what each list holds. The members stand in source order.
+//!
+//! ```
+//! let members = [Member::TypeDef { name }, Member::Func { name: maker, results }];
+//! let doc = order(alloc, &members)?;
+//! for it in doc.types.as_slice() {
+//!     let (member, factories) = (it.member, it.factories.as_slice());
+//! }
+//! ```
 #![tactic(auto)]
 
 mod laws;
@@ -10,8 +18,6 @@ mod lists;
 mod members;
 mod names;
 mod place;
-#[cfg(test)]
-mod tests;
 mod values;
 
 pub use laws::shown_members_stand_in_one_list;

@@ -92,7 +92,8 @@ fn keys_at<'a>(alloc: Global, members: &'a [Member], numbers: &[u32]) -> Mem<Vec
 /// All members are sorted once, and then each is put at the end of the list in which it stands.
 ///
 /// # Errors
-/// `NoMemory` where an allocation was refused.
+///
+/// `NoMemory` where an allocation is refused.
 pub fn order(alloc: Global, members: &[Member]) -> Mem<DocPackage>
     requires few { length members.now < 2 ^ 32 }
     ensures { IfOk result (λ doc. IsDocOf members.now doc) }

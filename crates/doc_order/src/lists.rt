@@ -3,7 +3,8 @@
 ghost use Rattle.std.specs.Prelude.{◌≡◌, [], fold, map, IfOk, IsSorted, OnOk};
 ghost use Rattle.std.specs.Cmp.Lexicographic.{slice_cmp};
 ghost use Rattle.std.specs.Ordering.{nat_cmp};
-ghost use Rattle.doc_order.specs.Slots.{bare_type, changed_at, slot_of, with_member_at, with_number, with_number_in, with_number_of_package};
+ghost use Rattle.doc_order.specs.Slots.{bare_type, changed_at, slot_of, with_member_at};
+ghost use Rattle.doc_order.specs.Slots.{with_number, with_number_in, with_number_of_package};
 
 use crate::members::{DocPackage, DocType, Kind, Member};
 use crate::place::{is_shown, kind_of, place_of};

@@ -2,8 +2,8 @@
 
 use plain_data::{Seq, Txt};
 
-/// A declaration of a package, outside functions, in a file that is no test.
-#[derive(Debug, Drop)]
+/// A declaration of a package, outside functions, in a file that isn't a test.
+#[derive(Drop)]
 pub enum Member {
     /// A declaration of constants or variables.
     Value {
@@ -35,7 +35,7 @@ pub enum Member {
 }
 
 /// A specification of a declaration of constants or variables.
-#[derive(Debug, Drop)]
+#[derive(Drop)]
 pub struct SpecFact {
     /// The names that it declares, in their order.
     pub names: Seq<Txt>,
@@ -46,7 +46,7 @@ pub struct SpecFact {
 }
 
 /// The documentation of a package: numbers of members, which are their places from 0.
-#[derive(Debug, Drop)]
+#[derive(Drop)]
 pub struct DocPackage {
     /// The declarations of constants that stand under no type.
     pub consts: Seq<u32>,
@@ -59,7 +59,7 @@ pub struct DocPackage {
 }
 
 /// A type of the documentation, and what stands under it.
-#[derive(Debug, Drop)]
+#[derive(Drop)]
 pub struct DocType {
     /// The number of its declaration.
     pub member: u32,
@@ -74,7 +74,7 @@ pub struct DocType {
 }
 
 /// The kinds of declarations, each of which has lists of its own.
-#[derive(Clone, Copy, Debug)]
+#[derive(Clone, Copy)]
 pub enum Kind {
     /// Declarations of constants.
     Constants,

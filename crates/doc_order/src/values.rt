@@ -5,7 +5,8 @@ ghost use Rattle.std.specs.Prelude.{◌≡◌, count_by, filter, find, map, not,
 ghost use Rattle.std.specs.Str.{bytes_eq};
 ghost use Rattle.std.specs.Option.{option_copied};
 ghost use Rattle.std.specs.List.{list_all, list_any};
-ghost use Rattle.doc_order.specs.Documentation.{bases_of, common_name, is_empty, is_exported_name, main_base, name_of_specs, first_name};
+ghost use Rattle.doc_order.specs.Documentation.{bases_of, common_name, is_empty, is_exported_name};
+ghost use Rattle.doc_order.specs.Documentation.{main_base, name_of_specs, first_name};
 
 use crate::members::SpecFact;
 use crate::names::has_exported_name;

@@ -1,3 +1,2 @@
-mod LastOf
 mod Lists
 mod Found

@@ -2,7 +2,8 @@
 -- Specification, "Declarations and scope", "Predeclared identifiers", "Import declarations" and
 -- "Qualified identifiers"). What is outside, and the local name of a plain import of a package that
 -- is not at hand, are the project's own.
-use Rattle.std.specs.Prelude.{ℕ, ◌==◌, Bool, ◌&&◌, nat_lt, drop, slice_index, if◌then◌else◌, List, [], ◌∷◌, ◌++◌, Option, length, map, codes}
+use Rattle.std.specs.Prelude.{ℕ, ◌==◌, Bool, ◌&&◌, nat_lt, drop, slice_index, if◌then◌else◌, List}
+use Rattle.std.specs.Prelude.{[], ◌∷◌, ◌++◌, Option, length, map, codes}
 use Rattle.std.specs.List.{find, list_all, position_from, slice_get}
 use Rattle.std.specs.Option.{option_map_or}
 use Rattle.std.specs.Path.{dot, slash, rsplit_once}

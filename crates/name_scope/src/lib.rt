@@ -1,7 +1,15 @@
-//! What a type's name leads to: a declared type, a predeclared one, or one outside (The Go
+//! What the name of a type leads to: a declared type, a predeclared one, or one outside (The Go
 //! Programming Language Specification, "Declarations and scope", "Qualified identifiers").
 //!
 //! [`resolve_name`] gives exactly `target_of` of `specs/Scopes.antt`.
+//!
+//! ```
+//! let world = World::make(alloc, packages)?;
+//! match resolve_name(alloc, &world, 0, 0, "io", "Reader")? {
+//!     Target::Declared { package, index } => {}
+//!     Target::Predeclared(_) | Target::Outside { .. } => {}
+//! }
+//! ```
 #![tactic(auto)]
 
 mod index;
@@ -11,8 +19,6 @@ mod places;
 mod predeclared;
 mod resolving;
 mod tables;
-#[cfg(test)]
-mod tests;
 mod versions;
 mod world;
 

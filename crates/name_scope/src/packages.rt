@@ -3,7 +3,7 @@
 use plain_data::{Seq, Txt};
 
 /// An import of a file.
-#[derive(Debug, Drop)]
+#[derive(Drop)]
 pub struct Import {
     /// The name that is written for the package: empty where there is none, `.` for a dot import.
     pub local: Txt,
@@ -12,7 +12,7 @@ pub struct Import {
 }
 
 /// The imports of a file.
-#[derive(Debug, Drop)]
+#[derive(Drop)]
 pub struct Imports {
     /// The path of the file.
     pub path: Txt,
@@ -21,7 +21,7 @@ pub struct Imports {
 }
 
 /// A package with the names of its types and the imports of its files.
-#[derive(Debug, Drop)]
+#[derive(Drop)]
 pub struct NamedPackage {
     /// The path by which it is imported.
     pub path: Txt,
@@ -34,7 +34,7 @@ pub struct NamedPackage {
 }
 
 /// What the name of a type leads to.
-#[derive(Debug, Drop)]
+#[derive(Drop)]
 pub enum Target {
     /// A type of a package, by the places of the package and of the type in it.
     Declared { package: u32, index: u32 },

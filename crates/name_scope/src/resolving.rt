@@ -4,7 +4,8 @@ ghost use Rattle.std.specs.Prelude.{◌≡◌, IfOk};
 ghost use Rattle.std.specs.List.{find};
 ghost use Rattle.std.specs.Option.{option_copied};
 ghost use Rattle.std.specs.Str.{bytes_eq};
-ghost use Rattle.name_scope.specs.Scopes.{imports_of, in_path, local_name, path_of, target_of, unqualified};
+ghost use Rattle.name_scope.specs.Scopes.{imports_of, in_path, local_name, path_of, target_of};
+ghost use Rattle.name_scope.specs.Scopes.{unqualified};
 ghost use Rattle.name_scope.specs.declared.packages.Target.TheVariants.{Outside};
 
 use crate::packages::{Import, Target};
@@ -20,6 +21,10 @@ use std::alloc::Global;
 /// first import with the qualifier as its local name; where the package has no such type, or is not
 /// in the world, it is outside with the import's path; where there is no such import, with the path
 /// `?` and the qualifier.
+///
+/// # Errors
+///
+/// `NoMemory` where an allocation is refused.
 pub fn resolve_name(
     alloc: Global,
     world: &World,

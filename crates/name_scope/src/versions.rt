@@ -2,7 +2,8 @@
 
 ghost use Rattle.std.specs.Prelude.{◌≡◌};
 ghost use Rattle.std.specs.List.{list_all};
-ghost use Rattle.name_scope.specs.Scopes.{is_digit, is_version, last_segment, name_segment, without_version};
+ghost use Rattle.name_scope.specs.Scopes.{is_digit, is_version, last_segment, name_segment};
+ghost use Rattle.name_scope.specs.Scopes.{without_version};
 
 /// Whether a byte is a digit of ASCII.
 fn is_digit(b: u8) -> bool

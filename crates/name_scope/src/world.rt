@@ -34,6 +34,10 @@ impl Model for World {
 
 impl World {
     /// A world of packages. Where two have one path, the first is found by it.
+    ///
+    /// # Errors
+    ///
+    /// `NoMemory` where an allocation is refused.
     pub fn make(alloc: Global, packages: Seq<NamedPackage>) -> Mem<World>
         requires few { length packages < 2 ^ 32 }
         requires few_types { All (λ p. length p.types < 2 ^ 32) packages }

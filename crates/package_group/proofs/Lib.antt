@@ -4,6 +4,5 @@ mod Lists
 mod Lookups
 mod Members
 mod Rising
-mod Slashes
 mod Suffixes
 mod Whole

@@ -1,16 +1,14 @@
 //! Notes in a text: on a bug, and on what is deprecated.
 
-ghost use Rattle.std.specs.Prelude.{◌≡◌, ◌-◌, ◌<◌, ◌≤◌, IfOk, MatchOption, None, Some, drop};
-ghost use Rattle.std.specs.Prelude.{IsTrue, length, slice_index, take};
-ghost use Rattle.std.specs.Char.{is_ascii};
+ghost use Rattle.std.specs.Prelude.{◌≡◌, IfOk, MatchOption, None, Some};
 ghost use Rattle.std.specs.List.{prefix_len};
-ghost use Rattle.std.specs.Str.{IsCharBoundary};
 ghost use Rattle.synopsis_notes.specs.Synopses.{is_white};
 ghost use Rattle.synopsis_notes.specs.Notes.{behind_colon, bug_of, is_deprecated, is_in_name};
 ghost use Rattle.synopsis_notes.specs.Notes.{note_behind, note_closed, note_of_named};
 ghost use Rattle.synopsis_notes.specs.Notes.{says_deprecated, trimmed, without_first_white};
 ghost use Rattle.synopsis_notes.specs.Notes.{without_last_white};
 
+use comment_blocks::cutting::{after, cut};
 use comment_blocks::{Block, blocks};
 use go_ast::{Mem, Txt};
 use std::alloc::Global;
@@ -29,7 +27,7 @@ fn white_len(text: &[u8]) -> usize
     text.iter().take_while(|byte| is_white(**byte)).count()
 }
 
-/// A text without the blanks and newlines at its front.
+/// A text without the blanks and newlines at its beginning.
 fn trim_front(text: &str) -> &str
     ensures { result.now ≡ without_first_white text.now }
 {
@@ -55,52 +53,34 @@ fn trim(text: &str) -> &str
     trim_back(trim_front(text))
 }
 
-/// The text behind its first bytes, of which the last is of ASCII.
-fn behind(text: &str, count: usize) -> &str
-    requires some { 0 < count }
-    requires within { count ≤ length text.now }
-    requires ascii { IsTrue (is_ascii (slice_index text.now (count - 1))) }
-    ensures { result.now ≡ drop count text.now }
-{
-    &text[count..]
-}
-
-/// A text without a colon at its front.
+/// A text without a colon at its beginning.
 fn behind_colon(text: &str) -> &str
     ensures { result.now ≡ behind_colon text.now }
 {
     match text.as_bytes() {
-        [b':', ..] => behind(text, 1),
+        [b':', ..] => after(text, 1),
         _ => text,
     }
 }
 
-/// The note behind `)`.
+/// The note after `)`.
 fn note_closed(text: &str) -> Option<&str>
     ensures { MatchOption result (note_closed text.now ≡ None)
         (λ note. note_closed text.now ≡ Some note.now) }
 {
     match text.as_bytes() {
-        [b')', ..] => Some(trim(behind_colon(behind(text, 1)))),
+        [b')', ..] => Some(trim(behind_colon(after(text, 1)))),
         _ => None,
     }
 }
 
-/// How many bytes at the front of a text are no parentheses.
+/// How many bytes at the beginning of a text aren't parentheses.
 fn name_len(text: &[u8]) -> usize
     ensures { result ≡ prefix_len is_in_name text.now }
 {
     text.iter()
         .take_while(|byte| **byte != b'(' && **byte != b')')
         .count()
-}
-
-/// The rest of a text, from a place where it may be cut.
-fn from_place(text: &str, place: usize) -> &str
-    requires { IsCharBoundary text.now place }
-    ensures { result.now ≡ drop place text.now }
-{
-    &text[place..]
 }
 
 /// The note of a text that begins with a name.
@@ -110,7 +90,7 @@ fn note_of_named(text: &str) -> Option<&str>
 {
     match name_len(text.as_bytes()) {
         0 => None,
-        len => note_closed(from_place(text, len)),
+        len => note_closed(cut(text, len).1),
     }
 }
 
@@ -119,14 +99,14 @@ fn note_of(text: &str) -> Option<&str>
         (λ note. bug_of text.now ≡ Some note.now) }
 {
     match text.as_bytes() {
-        [b'B', b'U', b'G', b'(', ..] => note_of_named(behind(text, 4)),
+        [b'B', b'U', b'G', b'(', ..] => note_of_named(after(text, 4)),
         _ => None,
     }
 }
 
 /// The note on a bug that the text of a comment is, or `None` where it isn't one: a text that
 /// begins `BUG(`, a name that isn't empty and has no parenthesis, `)`, and an optional `:`. The
-/// note is what stands behind these, without the blanks and newlines at both ends (`go/doc`,
+/// note is what stands after these, without the blanks and newlines at both ends (`go/doc`,
 /// `Note`).
 ///
 /// # Errors

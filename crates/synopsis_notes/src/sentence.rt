@@ -94,7 +94,7 @@ impl Sentence {
         is_capital(self.before) && !is_capital(self.earlier)
     }
 
-    /// Whether the sentence ends with a character that is no blank, by the text behind it.
+    /// Whether the sentence ends with a character that isn't a blank, by the text after it.
     fn ends_with(&self, c: char, after: &str) -> bool
         ensures { result
             ≡ ends_sentence self.now.earlier self.now.before c (squeezed (chars after.now)) }
@@ -102,7 +102,7 @@ impl Sentence {
         is_wide_stop(c) || (c == '.' && is_white_or_end(after) && !self.ends_in_initial())
     }
 
-    /// Takes the next character, by the text behind it; whether the sentence goes on.
+    /// Takes the next character, by the text after it; whether the sentence continues.
     fn take(&mut self, c: char, after: &str) -> Mem<bool>
         ensures { IfOk result (λ goes_on. IsTaken self.old c (chars after.now) goes_on self.new) }
     {

@@ -41,8 +41,8 @@ fn synopsis_of_paragraph(alloc: Global, text: &str) -> Mem<Txt>
 /// a paragraph, with each run of blanks and newlines made one space (`go/doc`,
 /// `Package.Synopsis`).
 ///
-/// The sentence ends behind the first `.` that a space or the end follows, unless one upper case
-/// letter stands alone before it, or behind the first U+3002 or U+FF0E, and else with the
+/// The sentence ends after the first `.` that a space or the end follows, unless one upper case
+/// letter stands alone before it, or after the first U+3002 or U+FF0E, and else with the
 /// paragraph. The synopsis is empty where it would begin `copyright`, `all rights` or `author`, in
 /// any case of ASCII letters.
 ///

@@ -5,7 +5,8 @@ use Rattle.build_lines.proofs.judge.admits.Goals as goal
 
 pub build_lines-requires : goal.build_lines-requires
 build_lines-requires c =
-    read_inside c.args.source.now c.args.scanned.now.tokens c.args.scanned.now.comments c.requires.read
+    read_inside c.args.source.now c.args.scanned.now.tokens c.args.scanned.now.comments
+    c.requires.read
 
 pub judge-requires-clause-inside : goal.judge-requires-clause-inside
 judge-requires-clause-inside c =

@@ -6,4 +6,5 @@ use Rattle.comment_html.proofs.whole.push_blocks.Given as goal
 -- what the ones so far add is added
 abbrev pub invariant-loop-block : goal.invariant-loop-block
 invariant-loop-block g l = l.html ≡ l.initial.html
-    ++ flat_map (block_html l.definitions (g.N.Names.address_of l.names)) (take l.block-index l.blocks)
+    ++ flat_map (block_html l.definitions (g.N.Names.address_of l.names))
+    (take l.block-index l.blocks)

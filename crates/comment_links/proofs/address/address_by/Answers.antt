@@ -19,4 +19,5 @@ range-requires-clause-end_boundary c =
       ap length c.as_bytes.ensures.value,
       ap length c.as_bytes-2.ensures.value,
     ) in
-    address_ends text scheme c.address_len-len.result c.utf8.text within (sym len) c.if-len-eq0.false
+    address_ends text scheme c.address_len-len.result c.utf8.text within (sym len)
+    c.if-len-eq0.false

@@ -13,7 +13,8 @@ pub loop-link-preserved : goal.loop-link-preserved
 loop-link-preserved c = λ text.
     let link = c.in-Some.link.now in
     let before = c.in-Some.before.now in
-    let shown : Option (Bor (List ℕ)) → Option (List ℕ) = option_map (λ (url : Bor (List ℕ)). url.now) in
+    let shown : Option (Bor (List ℕ)) → Option (List ℕ) =
+    option_map (λ (url : Bor (List ℕ)). url.now) in
     let old = get_by_text c.loop-link.urls text in
     let key : string_bytes c.in_ok-from_str.field-0 ≡ link.text =
     c.in_ok-from_str.ensures.ok ∙ c.as_str.ensures.text in

@@ -8,5 +8,7 @@ use Rattle.const_eval.proofs.array_length.run_value.Given as goal
 
 abbrev pub invariant-loop-token : goal.invariant-loop-token
 invariant-loop-token l =
-    (run values (operand_value (names_of l.names)) (state_of l.machine.frames.items l.machine.operand) (texts_of l.source (drop l.token-index l.tokens)) |> finish values)
+    (run values (operand_value (names_of l.names))
+    (state_of l.machine.frames.items l.machine.operand)
+    (texts_of l.source (drop l.token-index l.tokens)) |> finish values)
     ≡ whole values (operand_value (names_of l.names)) (texts_of l.source l.tokens)

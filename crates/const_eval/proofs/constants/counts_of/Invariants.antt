@@ -5,4 +5,5 @@ use Rattle.std.specs.BTreeMap.{get_by_text}
 use Rattle.const_eval.proofs.constants.counts_of.Given as goal
 
 abbrev pub invariant-loop-fact : goal.invariant-loop-fact
-invariant-loop-fact l = (q : List ℕ) → unwrap_or (get_by_text l.counts q) 0 ≡ sum_by (λ fact. if bytes_eq q fact.name then 1 else 0) (take l.fact-index l.specs)
+invariant-loop-fact l = (q : List ℕ) → unwrap_or (get_by_text l.counts q) 0 ≡ sum_by
+    (λ fact. if bytes_eq q fact.name then 1 else 0) (take l.fact-index l.specs)

@@ -7,5 +7,7 @@ use Rattle.const_eval.proofs.constants.run_value.Given as goal
 
 abbrev pub invariant-loop-text : goal.invariant-loop-text
 invariant-loop-text l =
-    (run values (operand_value (names_of l.names)) (state_of l.machine.frames.items l.machine.operand) (drop l.text-index l.run) |> finish values)
+    (run values (operand_value (names_of l.names))
+    (state_of l.machine.frames.items l.machine.operand) (drop l.text-index l.run) |> finish
+    values)
     ≡ whole values (operand_value (names_of l.names)) l.run

@@ -8,9 +8,13 @@ use Rattle.const_eval.proofs.literal.digits_value.Goals as goal
 
 pub returns-in-None : goal.returns-in-None
 returns-in-None c =
-    let small : digit_value (get_or c.args.digits.now c.loop-byte.byte-index 0) < c.args.base = c.in_ok-digit.ensures.value.0 in
-    let same : c.in_ok-digit.digit ≡ digit_value (get_or c.args.digits.now c.loop-byte.byte-index 0) = c.in_ok-digit.ensures.value.1 in
-    let other : (get_or c.args.digits.now c.loop-byte.byte-index 0 == underscore) ≡ false = grind (arith, nat_tests, c.if-byte-eq95.false) in
+    let small : digit_value (get_or c.args.digits.now c.loop-byte.byte-index 0) < c.args.base =
+    c.in_ok-digit.ensures.value.0 in
+    let same : c.in_ok-digit.digit ≡ digit_value
+    (get_or c.args.digits.now c.loop-byte.byte-index 0) = c.in_ok-digit.ensures.value.1 in
+    let other : (get_or c.args.digits.now c.loop-byte.byte-index 0 == underscore) ≡ false =
+    grind (arith, nat_tests, c.if-byte-eq95.false) in
     sym (ap as_number (sym c.loop-byte.invariant.same)
-    ∙ stuck c.args.base c.loop-byte.value c.loop-byte.marked c.args.digits.now c.loop-byte.byte-index c.requires.low
+    ∙ stuck c.args.base c.loop-byte.value c.loop-byte.marked c.args.digits.now
+    c.loop-byte.byte-index c.requires.low
     c.loop-byte-test.true other small (λ h. c.in-None.ensures (rw same h)))

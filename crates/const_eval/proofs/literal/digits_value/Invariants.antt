@@ -4,6 +4,7 @@ use Rattle.const_eval.proofs.literal.digits_value.Given as goal
 
 abbrev pub invariant-loop-byte : goal.invariant-loop-byte
 invariant-loop-byte l = record {
-  same : read_digits l.base l.marked l.value (drop l.byte-index l.digits) ≡ read_digits l.base false 0 l.digits;
+  same : read_digits l.base l.marked l.value (drop l.byte-index l.digits) ≡ read_digits l.base false
+      0 l.digits;
   small : l.value < 2 ^ 127;
 }

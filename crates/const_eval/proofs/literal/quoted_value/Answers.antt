@@ -8,5 +8,8 @@ use Rattle.const_eval.proofs.literal.quoted_value.Goals as goal
 
 pub returns-else-last-eq39 : goal.returns-else-last-eq39
 returns-else-last-eq39 c =
-    let other : (c.in_ok-last.last.now == single_quote) ≡ false = grind (arith, nat_tests, c.if-last-eq39.false) in
-    sym (ap (λ o. as_number (o |> read_element)) (unquoted c.args.bytes.now c.in_ok-last.inner.now c.in_ok-last.last.now c.in_ok-last.ensures.cases.0 other))
+    let other : (c.in_ok-last.last.now == single_quote) ≡ false =
+    grind (arith, nat_tests, c.if-last-eq39.false) in
+    sym (ap (λ o. as_number (o |> read_element))
+    (unquoted c.args.bytes.now c.in_ok-last.inner.now c.in_ok-last.last.now
+    c.in_ok-last.ensures.cases.0 other))

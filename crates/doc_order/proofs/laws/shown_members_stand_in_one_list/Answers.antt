@@ -1,5 +1,6 @@
 use Rattle.doc_order.specs.Documentation.{type_of}
-use Rattle.doc_order.proofs.LawLemmas.{methods_under_types, stands_once, stands_somewhere, type_is_listed}
+use Rattle.doc_order.proofs.LawLemmas.{methods_under_types, stands_once, stands_somewhere}
+use Rattle.doc_order.proofs.LawLemmas.{type_is_listed}
 use Rattle.doc_order.proofs.laws.shown_members_stand_in_one_list.Goals as goal
 
 pub returns : goal.returns

@@ -8,4 +8,5 @@ use Rattle.doc_order.proofs.place.slot_of_results.Given as goal
 abbrev pub invariant-loop-base : goal.invariant-loop-base
 invariant-loop-base l =
     let slots = slot_of (map (λ it. it.now) l.names)
-    in option_to_list l.found ++ filter_map slots (drop l.base-index l.results) ≡ filter_map slots l.results
+    in option_to_list l.found ++ filter_map slots (drop l.base-index l.results) ≡ filter_map slots
+    l.results

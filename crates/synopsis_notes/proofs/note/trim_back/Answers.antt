@@ -1,7 +1,7 @@
 use Rattle.std.proofs.Common.{◌≡◌, ◌-◌, ◌<◌, get_or, take, false, sym, ◌∙◌, subst, arith}
 use Rattle.std.proofs.lemmas.Grind.{common_steps}
 use Rattle.synopsis_notes.specs.Synopses.{is_white}
-use Rattle.synopsis_notes.proofs.Cuts.{cut_at}
+use Rattle.comment_blocks.proofs.BlockLaws.{cut_at}
 use Rattle.synopsis_notes.proofs.note.trim_back.Goals as goal
 use Rattle.synopsis_notes.proofs.note.trim_back.Goals.{then-loop-end-test+else-is_white}
 use Rattle.synopsis_notes.proofs.note.trim_back.Goals.{else-loop-end-test}
@@ -18,4 +18,4 @@ returns c =
       | else-loop-end-test w ↦ λ some. absurd (omega (arith, w.loop-end-test.false))
     ] in
     let value : c.range.result.now ≡ take end text = grind (arith, common_steps) in
-    value ∙ cut_at text end c.loop-end.invariant.within c.loop-end.invariant.behind last
+    value ∙ cut_at is_white text end c.loop-end.invariant.within c.loop-end.invariant.behind last

@@ -1,8 +1,0 @@
-use Rattle.std.proofs.lemmas.Bool.{ltb-true}
-use Rattle.std.proofs.lemmas.Str.{IsCharBoundary-after_ascii}
-use Rattle.comment_links.proofs.text.behind_first.Goals as goal
-
-pub range_from-requires : goal.range_from-requires
-range_from-requires c = λ _.
-    IsCharBoundary-after_ascii c.args.text.now 0 c.utf8.text c.requires.some
-    (ltb-true _ _ c.requires.ascii)
