@@ -1,7 +1,0 @@
-mod Addresses
-mod FaultTexts
-mod FoundLines
-mod Joins
-mod Scanning
-mod Sessions
-mod Writing

@@ -7,29 +7,10 @@
 
 ghost use Rattle.std.specs.Prelude.{◌≡◌};
 ghost use Rattle.std.specs.Process.{exit_status};
-ghost use Rattle.godoc.specs.Status.{exit_status_of};
+ghost use Rattle.godoc_commands.specs.Status.{exit_status_of};
 
-mod answer;
-mod command_line;
-mod config;
-mod faults;
-mod find;
-mod hit_lines;
-mod pages;
-mod run;
-mod scan;
-mod site;
-mod status;
-#[cfg(test)]
-mod tests;
-#[cfg(test)]
-mod tests_answer;
-mod words;
-
-use command_line::CommandLine;
+use godoc_commands::{CommandLine, Status, run};
 use link_io::{StdSink, StdSource};
-use run::run;
-use status::Status;
 use std::env;
 use std::process::ExitCode;
 use tree_io::FsTree;

@@ -1,4 +1,0 @@
-use Rattle.godoc.proofs.hit_lines.hits_of.Given as goal
-
-abbrev pub ghosts-look_up : goal.ghosts-look_up
-ghosts-look_up a = record { name = a.blank.name; parts = a.blank.parts }

@@ -1,0 +1,7 @@
+mod Addresses
+mod FaultTexts
+mod FoundLines
+mod Joins
+mod Scanning
+mod Sessions
+mod Writing
