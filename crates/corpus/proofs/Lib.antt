@@ -5,12 +5,12 @@ mod FileFaults
 mod Halving
 mod Inputs
 mod KeptFiles
-mod Lists
+pub mod Lists
 mod Numbers
 mod OneCorpus
 mod PackageCounts
 mod PackageNames
-mod PieceLists
+pub mod PieceLists
 mod Places
 mod ReadFiles
 mod TokenTexts

@@ -14,8 +14,6 @@ mod index;
 mod laws;
 mod packages;
 mod snapshot;
-#[cfg(test)]
-mod tests;
 
 pub use assembly::assemble;
 pub use corpus::{Corpus, own_tables};

@@ -7,8 +7,6 @@ mod laws;
 mod make;
 mod outcome;
 mod piece;
-#[cfg(test)]
-mod tests;
 
 pub use laws::one_outcome;
 pub use make::make_piece;

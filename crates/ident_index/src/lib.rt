@@ -14,8 +14,6 @@ mod names;
 mod postings;
 mod search;
 mod steps;
-#[cfg(test)]
-mod tests;
 
 pub use hit::{Hit, HitFile, HitKind};
 pub use hits::hits_of;

@@ -9,8 +9,6 @@ mod folders;
 mod grouping;
 mod laws;
 mod names;
-#[cfg(test)]
-mod tests;
 
 pub use facts::{FileFact, Grouped, Package};
 pub use grouping::group;

@@ -9,8 +9,6 @@
 mod counts;
 mod errors;
 mod sequence;
-#[cfg(test)]
-mod tests;
 
 pub use counts::{FaultCount, NumberedCalls};
 pub use errors::{Failed, IoFail, Mem, NoMemory};

@@ -7,6 +7,3 @@ mod escape;
 mod text;
 
 pub use text::Text;
-
-#[cfg(test)]
-mod tests;

@@ -2,5 +2,5 @@ pub mod Laws
 mod Dedup
 mod FileMaps
 mod Leading
-mod Reading
+pub mod Reading
 mod Segments

@@ -1,4 +1,4 @@
--- Cited by private clauses and proofs. Where a path below the root stands. The project's own.
+-- Cited by public clauses. Where a path below the root stands. The project's own.
 use Rattle.std.specs.Prelude.{ℕ, List, [], ◌∷◌, ◌++◌}
 use Rattle.tree_io.specs.Path.{slash}
 

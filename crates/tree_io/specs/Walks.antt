@@ -1,4 +1,4 @@
--- Cited by private clauses and proofs. How far a walk through a folder may have come, and what it
+-- Cited by public clauses. How far a walk through a folder may have come, and what it
 -- does at an entry. The project's own.
 use Rattle.std.specs.Prelude.{◌≡◌, ℕ, ◌+◌, ◌-◌, ◌≤◌, List, [], ◌∷◌, ◌++◌, map, All, string_bytes, vec_len}
 use Rattle.std.specs.Fs.{IsDir}

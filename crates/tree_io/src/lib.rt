@@ -12,16 +12,14 @@ mod folder;
 mod memory;
 mod names;
 mod path;
-mod place;
+pub mod place;
 mod tree;
-mod walk;
+pub mod walk;
 
 pub use entries::read_entry;
+pub use file::read_entry_from;
 pub use folder::FsTree;
 pub use memory::MemTree;
 pub use names::names_that_lead;
 pub use path::{MAX_PATH_BYTES, belongs};
 pub use tree::{Entry, MAX_FILE_BYTES, Tree};
-
-#[cfg(test)]
-mod tests;

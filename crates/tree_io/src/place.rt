@@ -7,7 +7,7 @@ use plain_data::Mem;
 use std::alloc::Global;
 
 /// The path of an entry of a folder below the root, which has the empty path.
-pub(crate) fn join(alloc: Global, folder: &str, name: &str) -> Mem<String>
+pub fn join(alloc: Global, folder: &str, name: &str) -> Mem<String>
     ensures { IfOk result (λ path. string_bytes path ≡ joined folder.now name.now) }
 {
     let mut path = String::from_str(alloc, folder)?;
@@ -19,7 +19,7 @@ pub(crate) fn join(alloc: Global, folder: &str, name: &str) -> Mem<String>
 }
 
 /// The path of a file or a folder below the root, from where the program runs.
-pub(crate) fn full_path(alloc: Global, root: &str, path: &str) -> Mem<String>
+pub fn full_path(alloc: Global, root: &str, path: &str) -> Mem<String>
     ensures { IfOk result (λ whole. string_bytes whole ≡ full root.now path.now) }
 {
     let mut whole = String::from_str(alloc, root)?;

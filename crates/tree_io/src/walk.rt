@@ -16,20 +16,23 @@ use std::fs::{DirEntry, FileType, Files, ReadDir};
 use std::{fs, io};
 
 /// The most entries of folders that one walk meets.
-pub(crate) const MAX_ENTRIES: usize = 4_000_000;
+pub const MAX_ENTRIES: usize = 4_000_000;
 
 /// How far a walk has come: the folders that are still to be read, the paths found so far, and how
 /// many entries of folders were met.
 #[derive(Drop)]
-pub(crate) struct Walk {
-    pub(crate) folders: Vec<String>,
-    pub(crate) paths: Vec<String>,
-    pub(crate) met: usize,
+pub struct Walk {
+    /// The folders that are still to be read.
+    pub folders: Vec<String>,
+    /// The paths found so far.
+    pub paths: Vec<String>,
+    /// How many entries of folders were met.
+    pub met: usize,
 }
 
 impl Walk {
     /// A walk that has come nowhere.
-    pub(crate) fn new(alloc: Global) -> Walk
+    pub fn new(alloc: Global) -> Walk
         ensures no_folder { result.folders.items ≡ [] }
         ensures no_path { result.paths.items ≡ [] }
         ensures nothing_met { result.met ≡ 0 }
@@ -89,7 +92,7 @@ fn walk_folder<R: Files + AllocGlobal + Clone + Drop>(
 }
 
 /// Meets the entries of a folder. A folder that can't be read is an error.
-pub(crate) fn visit_all<R: Files + Clone + Drop>(
+pub fn visit_all<R: Files + Clone + Drop>(
     alloc: Global,
     folder: &str,
     entries: io::Result<ReadDir<R, Global>>,
@@ -129,7 +132,7 @@ fn visit<R: Files + Drop>(
 /// Meets an entry of a folder by its name and its kind, which may be an error. It is passed over
 /// where no path that belongs can stand under its name, whatever it is. One entry more than
 /// [`MAX_ENTRIES`] is a fault.
-pub(crate) fn visit_named(
+pub fn visit_named(
     alloc: Global,
     folder: &str,
     name: &str,
@@ -162,14 +165,14 @@ pub(crate) fn visit_named(
 
 /// Whether paths that belong may stand under a name. Other entries are passed over, whatever they
 /// are.
-pub(crate) fn may_lead(name: &str) -> bool
+pub fn may_lead(name: &str) -> bool
     ensures { IsTrue result ↔ MayLead name.now }
 {
     is_source_folder(name) && has_path_bytes(name)
 }
 
 /// Whether an entry is a folder, by what the system says of it. A link is none.
-pub(crate) fn is_folder(kind: io::Result<FileType>) -> Result<bool, IoFail>
+pub fn is_folder(kind: io::Result<FileType>) -> Result<bool, IoFail>
     ensures { MatchResult kind (λ kind. IsOkAnd result (λ it. IsTrue it ↔ IsDir kind))
         (λ error. IsErrAnd result (IsFailOf error)) }
 {
