@@ -3,6 +3,13 @@
 //!
 //! `specs/Corpora.antt` says what the corpus of a set of sources is; [`assemble`] makes it, and
 //! each [`Corpus`] keeps that it is that of its own sources.
+//!
+//! ```
+//! let snapshot = Snapshot::make(alloc, config, entries)?;
+//! let corpus = assemble(alloc, snapshot, pieces)?;
+//! let package = corpus.find_package("io");
+//! let faults = corpus.faults();
+//! ```
 #![tactic(auto)]
 
 mod accepted;

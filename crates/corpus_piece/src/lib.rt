@@ -1,6 +1,15 @@
-//! What becomes of one file of a tree: that it is passed over, its fault, or what was read in it.
+//! What becomes of one file of a tree: excluded, its fault, or what was parsed in it.
 //!
-//! [`make_piece`] gives exactly the outcome of `specs/Outcomes.antt`.
+//! [`make_piece`] returns exactly the outcome of `specs/Outcomes.antt`.
+//!
+//! ```
+//! let piece = make_piece(alloc, "io/io.go", &entry, &config, number)?;
+//! match piece.outcome() {
+//!     Outcome::Accepted(parsed) => ..,
+//!     Outcome::Ignored(why) => ..,
+//!     Outcome::Faulty(fault) => ..,
+//! }
+//! ```
 #![tactic(auto)]
 
 mod laws;

@@ -1,7 +1,14 @@
-//! Plain data of Go sources, and the definitions that say what their bytes mean.
+//! Plain data of Go sources, and the definitions that say what their bytes mean (The Go Programming
+//! Language Specification, "Lexical elements", "Types", "Declarations and scope").
 //!
-//! `specs/` holds the lexical elements of the Go specification. The plain types of `plain_data` are
-//! passed on from here.
+//! `specs/` holds these definitions. The types of `plain_data` are exported from here too.
+//!
+//! ```
+//! let span = Span { start: 8, end: 9 };
+//! let range = TokenRange { first: 0, after: 2 };
+//! let fault = Fault::BadToken(17);
+//! let text = format!(in alloc; "{fault}")?;
+//! ```
 #![tactic(auto)]
 
 mod config;

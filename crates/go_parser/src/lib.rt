@@ -1,5 +1,13 @@
-//! The files that tokens spell: chunks between semicolons, and their declarations (Go
-//! specification, "Source file organization", "Declarations and scope").
+//! The files that tokens spell: chunks between semicolons, and their declarations (The Go
+//! Programming Language Specification, "Source file organization", "Declarations and scope").
+//!
+//! ```
+//! let scanned = scan(alloc, source)?;
+//! let file = parse_file(alloc, source, &scanned)?;
+//! for decl in file.decls.as_slice() {
+//!     if let Decl::Func(function) = decl { .. }
+//! }
+//! ```
 #![tactic(auto)]
 
 mod body;

@@ -1,5 +1,13 @@
 //! The tokens and comments of a Go source (The Go Programming Language Specification, "Lexical
 //! elements").
+//!
+//! ```
+//! let scanned = scan(alloc, source)?;
+//! for token in scanned.tokens.as_slice() {
+//!     let place = position_of(scanned.lines.as_slice(), token.span.start);
+//!     // place.line and place.column count from 1
+//! }
+//! ```
 #![tactic(auto)]
 
 mod class;

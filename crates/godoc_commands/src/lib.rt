@@ -1,7 +1,14 @@
-//! The commands of godoc, over any tree, source and sink.
+//! All that the program godoc does: the top call [`run`], and the calls for each command.
 //!
-//! [`run`] does what the words of a command line ask for and says how that ended, as a [`Status`].
-//! Only the program names the standard streams and a folder of the file system.
+//! `find` writes where a name stands as an identifier in the Go files under a folder. `answer`
+//! answers the HTTP requests of the input by pages on the packages and faults under a folder.
+//!
+//! ```
+//! let line = CommandLine::new(alloc, words);
+//! let mut tree = FsTree::new(rt, line.root);
+//! let status = run(&rt, alloc, line.words.as_slice(), &mut tree, &mut input, &mut out);
+//! let code = status.exit_status();
+//! ```
 #![tactic(auto)]
 
 mod answer;

@@ -1,9 +1,17 @@
 //! Requests and replies on the wire: HTTP/1.1 (RFC 9110, RFC 9112) in a narrow profile.
 //!
 //! [`Heads`] cuts a stream of bytes, however it comes, into the heads of requests. [`reply_head`]
-//! and [`bad_reply`] write what goes before a page or in its place. Four functions without a body
-//! state the laws of the definitions in `specs/`: no head begins another, a stream has one list of
-//! requests, it is the same however the stream is cut, and a stream that is refused stays so.
+//! and [`bad_reply`] write what goes before a page or in its place.
+//!
+//! ```
+//! let mut heads = Heads::new(alloc)?;
+//! let taken = heads.feed(piece);
+//! match heads.next()? {
+//!     Next::Head(request) => ..,
+//!     Next::More => .., // feed the next piece
+//!     Next::Clean | Next::Bad => ..,
+//! }
+//! ```
 #![tactic(auto)]
 
 mod fields;

@@ -2,6 +2,14 @@
 //! names.
 //!
 //! `specs/Postings.antt` says what the table of names holds.
+//!
+//! ```
+//! let hits = hits_of(alloc, source, &scanned, &file, number)?;
+//! let postings = Postings::build(alloc, &[HitFile { source, hits }])?;
+//! for hit in postings.find("Reader", &mut steps) {
+//!     // hit.file, hit.offset, hit.line, hit.kind
+//! }
+//! ```
 #![tactic(auto)]
 
 mod declarations;

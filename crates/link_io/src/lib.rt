@@ -1,7 +1,14 @@
 //! Where bytes come from and where they go: sources, sinks and links between two peers.
 //!
-//! Each trait has a written meaning, and the forms in memory tell it whole. The adapters over the
-//! standard streams tell nothing of the bytes that pass.
+//! Each trait has a written meaning, and the forms in memory expose all of it. The adapters of the
+//! standard streams expose none of the bytes that pass.
+//!
+//! ```
+//! let mut input = StdSource::new(rt);
+//! let mut out = StdSink::new(rt);
+//! let count = input.read(&mut piece)?;
+//! write_whole(&mut out, &piece[..count])?;
+//! ```
 #![tactic(auto)]
 
 mod link;

@@ -1,8 +1,16 @@
-//! The core of a server whose editions are published beside its readers: a machine that answers
+//! The core of a server whose editions are published while they are read: a machine that answers
 //! events.
 //!
 //! An edition is made in pieces, in any order and by any worker, and is published when its last
-//! piece is finished. Whoever enters is served the newest edition that is published.
+//! piece is finished. Whoever enters is served the newest published edition.
+//!
+//! ```
+//! let mut core = Core::start(alloc, sources)?;
+//! match core.step(&event)? {
+//!     Answer::Published(edition) => ..,
+//!     Answer::Illegal(why) => .., // nothing changed
+//! }
+//! ```
 #![tactic(auto)]
 
 mod draft;

@@ -1,5 +1,12 @@
 //! Workers that take the jobs of a list one after another, all from one claim word, and give their
 //! outputs in the order of the jobs.
+//!
+//! ```
+//! let outputs = run_pieces(rt, alloc, &job, 4)?;
+//! for (number, output) in outputs.as_slice().iter().enumerate() {
+//!     // output is what job.work(number) may return
+//! }
+//! ```
 #![tactic(auto)]
 
 mod claims;

@@ -1,10 +1,16 @@
-//! Editions that one publisher hands to its readers, each of which sees a beginning of one history.
+//! Editions that one publisher hands to its readers, each of which sees a prefix of one history.
 //!
 //! A history begins with one edition, and each publication adds one at its end, in one step.
-//! Readers enter beside the publisher and wait for nobody. What is published, and what each reader
-//! has seen of it, stands under the rule of `specs/Rule.antt`, on `left_right`; what is told and
-//! learnt, and which opening it belongs to, is known by a log that exists in proofs alone, of
-//! `specs/Chronicle.antt`, on `logbook`.
+//! Readers enter while the publisher publishes, and wait for nobody. `specs/Rule.antt` has the rule
+//! of what is published and seen, on `left_right`; `specs/Chronicle.antt` that of what is handed
+//! over and learnt, on `logbook`.
+//!
+//! ```
+//! let (mut publisher, mut readers) = open_editions(rt, alloc, first, 2)?;
+//! let number = publisher.publish(rt, next)?;
+//! let entered = readers[0].enter()?;
+//! // entered.number == number, and entered.edition is `next`
+//! ```
 #![tactic(auto)]
 
 mod chronicle;

@@ -1,9 +1,16 @@
 //! One connection: its requests are read, and each is answered by the edition that stood when it
-//! was begun.
+//! was entered (RFC 9112, "Persistence").
 //!
 //! [`serve_link`] knows neither what an edition is nor what a reply says: a [`Responder`] makes the
 //! replies. `specs/Text.antt` says what the text of a connection is, and `specs/Session.antt` what
 //! a session did.
+//!
+//! ```
+//! match serve_link(alloc, &mut link, &mut reader, &site) {
+//!     SessionEnd::Closed | SessionEnd::Refused | SessionEnd::Full => ..,
+//!     SessionEnd::ReadFault | SessionEnd::WriteFault | SessionEnd::NoMemory => ..,
+//! }
+//! ```
 #![tactic(auto)]
 
 mod incoming;

@@ -1,8 +1,15 @@
 //! Trees of Go files: what a tree is, one in memory, and one in a real folder.
 //!
 //! A [`Tree`] is scanned by opening a scan, listing its paths and reading them. Its contracts speak
-//! of the contents of the scans opened so far, where a tree tells them, and of two counts of
+//! of the contents of the scans opened so far, where a tree exposes them, and of two counts of
 //! faults.
+//!
+//! ```
+//! tree.open_scan()?;
+//! for path in tree.list(alloc)?.as_slice() {
+//!     let entry = read_entry(alloc, &mut tree, path.as_str())?;
+//! }
+//! ```
 #![tactic(auto)]
 
 mod entries;

@@ -1,5 +1,14 @@
-//! The types, signatures and type parameters that tokens spell (Go specification, "Types",
-//! "Type parameter declarations").
+//! The types, signatures and type parameters that tokens spell (The Go Programming Language
+//! Specification, "Types", "Type parameter declarations").
+//!
+//! ```
+//! let scanned = scan(alloc, source)?;
+//! let all = TokenRange { first: 0, after };
+//! match parse_type(alloc, &scanned, source, all)? {
+//!     Some(TypeExpr::Pointer(_)) => .., // `*T`
+//!     None => .., // the tokens spell no type
+//! }
+//! ```
 #![tactic(auto)]
 
 mod cut;
