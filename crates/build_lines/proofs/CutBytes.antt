@@ -31,7 +31,7 @@ first_some c xs k first here =
     let high : k < length xs = first.high in
     sym (ap (λ n. take n xs) (first_is c xs k (omega arith) first.before (λ _. here)))
 
--- how many bytes stand behind the last
+-- how many bytes stand after the last
 last_is : (c : ℕ) (xs : List ℕ) (n : ℕ) → n ≤ length xs
     → Nowhere (Passes (is_byte c) xs) n (length xs) → (0 < n → Passes (is_byte c) xs (n - 1))
     → length xs - suffix_len (λ b. not (b == c)) xs ≡ n

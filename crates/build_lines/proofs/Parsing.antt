@@ -80,7 +80,7 @@ run (x ∷ xs) s = option_and_then (run xs) (step s x)
 abbrev pub tree_of : List Symbol → Option Expression
 tree_of xs = run xs (operand [] empty)
 
--- what an expression leaves behind when its symbols were read
+-- what an expression leaves when its symbols were read
 pub record Left (e : Expression) (outer : List Frame) (rest : List Symbol) : Type 0 where
   pub alternatives : Option Expression
   pub last : Conjunction

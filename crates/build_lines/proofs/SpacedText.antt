@@ -214,7 +214,7 @@ symbols_of-spaced (bars ∷ xs) text valid apart (blanks, rest, all, split, more
     ∙ past_half after_bar 124 (124 ∷ rest) (is_tag_character-ascii 124 (lit< tt)) refl)
     (symbols_of-spaced xs rest valid apart more)
 
--- symbols that give a tree have no name behind a name
+-- symbols that give a tree have no name after a name
 unnamed_after : (outer : List Frame) (alternatives : Option Expression) (c : Conjunction)
     (xs : List Symbol) (e : Expression)
     → run xs (operator outer alternatives c) ≡ Some e → begins_with_name xs ≡ false

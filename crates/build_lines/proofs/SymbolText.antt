@@ -10,7 +10,7 @@ use Rattle.build_lines.specs.Expressions.{bars, name, characters_of, is_blank, i
 use Rattle.build_lines.specs.Expressions.{is_tag, is_symbol, Spaces}
 use Rattle.build_lines.proofs.Trees.{none_is_some, some_same}
 
--- between symbols, within a tag that begins so, or behind the first "&" or "|"
+-- between symbols, within a tag that begins so, or after the first "&" or "|"
 pub data Place : Type 0 where
   between after_ampersand after_bar : Place
   in_tag : List ℕ → Place

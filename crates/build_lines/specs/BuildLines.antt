@@ -42,7 +42,7 @@ abbrev pub ends_word : List ℕ → Bool
 ends_word [] = true
 ends_word (b ∷ bytes) = is_blank b
 
--- a text that begins "//go:build", and ends there or goes on with a blank
+-- a text that begins "//go:build", and ends there or continues with a blank
 unfoldable pub begins_build : List ℕ → Bool
 begins_build text = starts_with nat_eq text (codes "//go:build") && ends_word (drop 10 text)
 
@@ -55,6 +55,6 @@ is_build_line bytes first comment = not comment.general && stands_before first c
 unfoldable pub build_lines : List ℕ → List Token → List Comment → List Comment
 build_lines bytes tokens comments = filter (is_build_line bytes (first_token tokens)) comments
 
--- what stands behind "//go:build" in a build line
+-- what stands after "//go:build" in a build line
 abbrev pub expression_text : List ℕ → Comment → List ℕ
 expression_text bytes comment = drop 10 (text_of_comment bytes comment)

@@ -7,7 +7,7 @@ use Rattle.build_lines.specs.declared.symbol.Place.{Place}
 use Rattle.build_lines.specs.declared.symbol.Step.{Step}
 use Rattle.build_lines.specs.Reading.{ended_tag, is_in_tag, step_at, tag_after}
 
--- the tag, if there is one, ended before a character behind which this place is
+-- the tag, if there is one, ended before a character after which this place is
 pub record IsTagEnded (holds : List ℕ
     → Bool) (old : Cutting) (place : Place) (new : Cutting) : Type 0 where
   pub symbols : new.symbols ≡ old.symbols ++ ended_tag holds old.place place (string_bytes old.tag)

@@ -16,7 +16,7 @@ unfoldable pub without_test : List ℕ → List ℕ
 without_test text = if ends_with nat_eq text (codes "_test") then take (length text - 5) text
     else text
 
--- what stands behind the last slash and before the first point after it, without a final "_test"
+-- what stands after the last slash and before the first point after it, without a final "_test"
 unfoldable pub stem_of : List ℕ → List ℕ
 stem_of path = without_test (before_first (λ b. b == full_stop) (after_last (λ b. b == slash) path))
 

@@ -44,18 +44,18 @@ abbrev pub ended_tag : (List ℕ → Bool) → Place → Place → List ℕ → 
 ended_tag holds from to tag = if is_in_tag from && not (is_in_tag to) then Tag (holds tag) ∷ []
     else []
 
--- the bytes of the tag behind a character
+-- the bytes of the tag after a character
 abbrev pub tag_after : Place → List ℕ → ℕ → List ℕ
 tag_after to tag c = if is_in_tag to then tag ++ encode_utf8 c else []
 
--- the symbols behind those that were found, at the end of the text
+-- the symbols after those that were found, at the end of the text
 abbrev pub cut_end : (List ℕ → Bool) → Place → List ℕ → List Symbol → Option (List Symbol)
 cut_end holds Between tag symbols = Some symbols
 cut_end holds InTag tag symbols = Some (symbols ++ Tag (holds tag) ∷ [])
 cut_end holds AfterAmpersand tag symbols = None
 cut_end holds AfterBar tag symbols = None
 
--- the symbols of the characters from a place on, behind those that were found
+-- the symbols of the characters from a place on, after those that were found
 abbrev pub cut : (List ℕ → Bool) → List ℕ → Place → List ℕ → List Symbol → Option (List Symbol)
 cut holds [] place tag symbols = cut_end holds place tag symbols
 cut holds (c ∷ cs) place tag symbols = option_and_then

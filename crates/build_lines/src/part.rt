@@ -5,7 +5,7 @@ ghost use Rattle.std.specs.List.{after_last, before_first, before_last};
 
 use memchr::{memchr, memrchr};
 
-/// What stands before the first of these bytes, or all where there is none.
+/// What stands before the first of these bytes, or all where there isn't one.
 #[tactic(auto, using(crate::proofs::CutBytes::first_none, crate::proofs::CutBytes::first_some))]
 pub fn before_first(byte: u8, bytes: &[u8]) -> &[u8]
     ensures { result.now ≡ before_first (λ b. b == byte) bytes.now }
@@ -16,7 +16,7 @@ pub fn before_first(byte: u8, bytes: &[u8]) -> &[u8]
     }
 }
 
-/// What stands before the last of these bytes, or nothing where there is none.
+/// What stands before the last of these bytes, or nothing where there isn't one.
 #[tactic(auto, using(crate::proofs::CutBytes::front_none, crate::proofs::CutBytes::front_some))]
 pub fn before_last(byte: u8, bytes: &[u8]) -> &[u8]
     ensures { result.now ≡ before_last (λ b. b == byte) bytes.now }
@@ -27,7 +27,7 @@ pub fn before_last(byte: u8, bytes: &[u8]) -> &[u8]
     }
 }
 
-/// What stands after the last of these bytes, or all where there is none.
+/// What stands after the last of these bytes, or all where there isn't one.
 #[tactic(auto, using(crate::proofs::CutBytes::last_none, crate::proofs::CutBytes::last_some))]
 pub fn after_last(byte: u8, bytes: &[u8]) -> &[u8]
     ensures { result.now ≡ after_last (λ b. b == byte) bytes.now }

@@ -132,7 +132,7 @@ first_and_rest [] d some = absurd (omega arith)
 first_and_rest (x ∷ xs) d some =
     ap (λ l. x ∷ l) (sym (take_all (length (x ∷ xs) - 1) xs (omega arith)))
 
--- the texts of a span and of the lines behind it
+-- the texts of a span and of the lines after it
 pub span_texts : (rest span : List (Bor (List ℕ))) (line : Bor (List ℕ))
     (after : List (Bor (List ℕ))) (k n : ℕ) → rest ≡ line ∷ after → k ≡ 1 + n
     → span ≡ take k rest → texts span ≡ line.now ∷ take n (texts after)

@@ -1,4 +1,4 @@
--- Where a text may be cut: behind and before bytes of ASCII.
+-- Where a text may be cut: after and before bytes of ASCII.
 use Rattle.std.proofs.Common.{◌≡◌, ℕ, zero, suc, ◌+◌, ◌<◌, ◌≤◌, Bool, true, false, List, [], ◌∷◌}
 use Rattle.std.proofs.Common.{length, get_or, ◌∙◌, ap, subst, cond, ⊎_elim, arith, IsUtf8, ◌==◌}
 use Rattle.std.proofs.Common.{leb}
@@ -14,7 +14,7 @@ use Rattle.std.specs.Char.{is_ascii_digit}
 use Rattle.comment_blocks.specs.Texts.{is_blank}
 use Rattle.comment_blocks.specs.Kinds.{is_bracket, is_in_brackets}
 
--- among the bytes at the front that pass a test which only ASCII passes, and behind them
+-- among the bytes at the front that pass a test which only ASCII passes, and after them
 pub behind_some : (p : ℕ → Bool) → ((b : ℕ) → p b ≡ true → b < 128) → (text : List ℕ) (n : ℕ)
     → IsUtf8 text → n ≤ prefix_len p text
     → IsCharBoundary text n
@@ -53,7 +53,7 @@ blank_is_ascii b is = ⊎_elim
     (λ (h : (b == 9) ≡ true). omega (arith, eqb-true b 9 h))
     (or_cases (b == 32) (b == 9) is)
 
--- behind U+2022
+-- after U+2022
 pub behind_bullet : (text : List ℕ) → IsUtf8 text → 3 ≤ length text → get_or text 0 0 ≡ 226
     → get_or text 1 0 ≡ 128 → get_or text 2 0 ≡ 162
     → IsCharBoundary text 3

@@ -120,7 +120,7 @@ pub only_cutting : (pieces : List Piece) (lines : List (List ℕ)) → IsCutting
 only_cutting pieces lines cut =
     sym (subst (λ ls. pieces_of ls ≡ pieces) cut.whole (cut_alone pieces cut.valid cut.apart))
 
--- what holds of the pieces behind a span that is reached
+-- what holds of the pieces after a span that is reached
 record Behind (pieces : List Piece) (reach : Reach) : Type 0 where
   whole : reach.0 ++ flat_map lines_in reach.1 ≡ flat_map lines_in pieces
   on : (gapped : Bool) → goes_on gapped reach.0 ≡ true

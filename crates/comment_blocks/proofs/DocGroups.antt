@@ -1,4 +1,4 @@
--- The groups that are left to look at, from behind.
+-- The groups that are left to look at, from the last.
 use Rattle.std.proofs.Common.{◌≡◌, ◌==◌, ℕ, ◌+◌, ◌-◌, ◌<◌, ◌≤◌, true, false, length, get_or, refl}
 use Rattle.std.proofs.Common.{sym, ap, subst, ⊎_elim, arith, Option, Some, None, true≢false}
 use Rattle.std.specs.Prelude.{slice_get}
@@ -11,8 +11,8 @@ use Rattle.comment_blocks.specs.Groups.{line_at}
 use Rattle.comment_blocks.specs.GroupSteps.{AreCommentsBefore, IsInOrder, IsStart}
 use Rattle.comment_blocks.proofs.Halves.{line_at_never_falls}
 
--- no group goes on at the place, the comments before it end before the line, and no group that is
--- looked for ends behind it
+-- no group continues at the place, the comments before it end before the line, and no group that is
+-- looked for ends after it
 pub record Looked (scanned : Scanned) (line place : ℕ) : Type 0 where
   pub within : place ≤ length scanned.comments
   pub before : (k : ℕ) (d : Comment) → k < place
@@ -42,7 +42,7 @@ last_of : (scanned : Scanned) (line first after : ℕ) → IsDocGroup scanned li
     → IsLast scanned line after
 last_of scanned line first after doc = last_from scanned line after _ refl doc.before
 
--- where no comment goes on a group, there is no place behind the start at which one does
+-- where no comment continues a group, there is no place after the start at which one does
 not_inside : (scanned : Scanned) (place start at : ℕ) → IsStart scanned place start
     → goes_on_at scanned at ≡ false → at ≤ place → at ≤ start
 not_inside scanned place start at found ends le = ⊎_elim
@@ -96,7 +96,7 @@ none_left scanned line place ordered looked some other first after doc =
     (slice_get-get_or scanned.comments (place - 1) found.last within) other in
     eqb-false _ _ differs (omega (arith, low, high, found.line_is))
 
--- a group that begins beside a token is passed over
+-- a group that begins next to a token is skipped
 pub passed : (scanned : Scanned) (line place start : ℕ) → Looked scanned line place → 0 < place
     → IsStart scanned (place - 1) start
     → begins_beside_token scanned (slice_get scanned.comments start) ≡ true

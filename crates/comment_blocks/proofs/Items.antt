@@ -14,7 +14,7 @@ use Rattle.comment_blocks.specs.LineSteps.{is_filled, is_unmarked, item_at, para
 abbrev Line : Type 0
 Line = List ℕ
 
--- the lines before the first marker, and the items behind them
+-- the lines before the first marker, and the items after them
 abbrev Front : List Line → ℕ → List Line × List Item → Type 0
 Front lines n cut = (cut.0 ≡ take n lines) × (cut.1 ≡ items_of (drop n lines))
 
@@ -51,7 +51,7 @@ pub items_unmarked : (line : Line) (lines : List Line) → marker_of line ≡ No
 items_unmarked line lines is =
     ap (λ (o : Option Marked). (with_item_line o line (cut_at_markers lines)).1) is
 
--- the parts behind the first
+-- the parts after the first
 abbrev later_parts : List Line → List (List Line)
 later_parts [] = []
 later_parts (line ∷ lines) = slice_split is_empty lines

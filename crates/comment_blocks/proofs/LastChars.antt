@@ -20,7 +20,7 @@ last_of_back o [] [] some = absurd (some refl)
 last_of_back o [] (y ∷ ys) some = refl
 last_of_back o (x ∷ xs) ys some = last_of_back (Some x) xs ys some
 
--- the last character of what stands behind a place is that of the whole
+-- the last character of what stands after a place is that of the whole
 pub last_behind : (text : List ℕ) (place : ℕ) → IsUtf8 text → IsCharBoundary text place
     → place < length text → last_or None (chars (drop place text)) ≡ last_or None (chars text)
 last_behind text place utf8 boundary within =

@@ -11,7 +11,7 @@ use Rattle.memchr.specs.Find.{IsFirstByte, is_byte}
 use Rattle.comment_blocks.specs.Texts.{is_newline, is_trailing, lines_of, trimmed}
 use Rattle.comment_blocks.specs.LineSteps.{texts}
 
--- the first line and the lines behind it
+-- the first line and the lines after it
 first_at : (bytes : List ℕ) (n : ℕ) → n < length bytes
     → ((k : ℕ) → k < n → is_newline (get_or bytes k 0) ≡ false)
     → is_newline (get_or bytes n 0) ≡ true → lines_of bytes
@@ -42,7 +42,7 @@ pub cut_last : (bytes : List ℕ) → IsFirstByte (is_byte 10) bytes None → li
 cut_last bytes nowhere = only_line bytes
     (λ k below. false_from_ne_true _ (nowhere k (omega arith) below))
 
--- a line up to the place behind which all goes
+-- a line up to the place after which all goes
 pub cut_at : (p : ℕ → Bool) (line : List ℕ) (end : ℕ) → end ≤ length line
     → ((k : ℕ) → end ≤ k → k < length line → p (get_or line k 0) ≡ true)
     → (0 < end → p (get_or line (end - 1) 0) ≡ false) → take end line

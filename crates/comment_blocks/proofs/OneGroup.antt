@@ -59,7 +59,7 @@ beside scanned k d token lt one same =
     (sym (slice_get-get_or scanned.comments k d lt))
     (list_any_at (ends_on scanned line) scanned.tokens one.place token one.within found)
 
--- the comment at the next place goes on a group exactly where the two are joined
+-- the comment at the next place continues a group exactly where the two are joined
 pair_at : (scanned : Scanned) (k : ℕ) (d : Comment) (t : Bool) → suc k < length scanned.comments
     → goes_on_at scanned (suc k) ≡ t
     → are_joined scanned (get_or scanned.comments k d) (get_or scanned.comments (suc k) d) ≡ t
@@ -84,7 +84,7 @@ join_from scanned comment next joined =
     (not (token_ends_on scanned first_line) || next_line == first_line) joined in
     record { free = not-true _ ((and_parts free near both.0).0) }
 
--- a token in front of a comment that goes on a group is in front of the comment before it
+-- a token in front of a comment that continues a group is in front of the comment before it
 in_front : (scanned : Scanned) (k : ℕ) (d : Comment) (token : Token) → IsLaidOut scanned
     → IsToken scanned token → suc k < length scanned.comments
     → goes_on_at scanned (suc k) ≡ true
@@ -144,7 +144,7 @@ last_line : (scanned : Scanned) (line k : ℕ) (d : Comment) → k < length scan
 last_line scanned line k d lt ends = eqb-true _ _
     (subst (λ o. ends_before scanned line o ≡ true) (slice_get-get_or scanned.comments k d lt) ends)
 
--- a comment that lies behind one and not behind another, where both end on one line
+-- a comment that lies after one and not after another, where both end on one line
 record IsOnLine (scanned : Scanned) (on : ℕ) (comment : Comment) : Type 0 where
   start : line_at scanned.lines comment.span.start ≡ on
   end : line_at scanned.lines comment.span.end ≡ on
@@ -192,7 +192,7 @@ parted scanned comment next same apart =
 any_comment : Comment
 any_comment = record { span = record { start = 0; end = 0 }; general = false }
 
--- a token behind the last comment of a group that ends on its line ends on no earlier line
+-- a token after the last comment of a group that ends on its line ends on no earlier line
 ends_behind : (scanned : Scanned) (comment : Comment) (token : Token) → IsLaidOut scanned
     → IsToken scanned token → comment.span.end ≤ token.span.start
     → line_at scanned.lines comment.span.end ≤ line_at scanned.lines token.span.end

@@ -7,7 +7,7 @@ use Rattle.comment_blocks.specs.Texts.{gap_before, squeezed, text_of_lines, trim
 use Rattle.comment_blocks.specs.Texts.{without_first_gap}
 use Rattle.comment_blocks.specs.TextSteps.{after_lines, after_trimmed, nothing}
 
--- what stands behind a text that has a line already
+-- what stands after a text that has a line already
 abbrev tail_text : List (List ℕ) → List ℕ
 tail_text [] = []
 tail_text (line ∷ lines) = 10 ∷ join_with_byte 10 (line ∷ lines)
@@ -47,7 +47,7 @@ two_breaks : (line : List ℕ) (lines : List (List ℕ)) → (10 ∷ 10 ∷ []) 
     ≡ tail_text ([] ∷ line ∷ lines)
 two_breaks line lines = ap (λ l. 10 ∷ 10 ∷ l) (sym (join_cons line lines))
 
--- a line behind a text that has one, where the lines after it are known
+-- a line after a text that has one, where the lines after it are known
 step : (line : List ℕ) (lines : List (List ℕ)) (b : ℕ) (text : List ℕ) (gap : Bool)
     → ((c : ℕ) (before : List ℕ) (empty : Bool)
     → (after_lines (record { text = c ∷ before; gap = empty }) lines).text
@@ -74,7 +74,7 @@ nothing_more : (b : ℕ) (text : List ℕ) (gap : Bool) → b ∷ text
 nothing_more b text true = sym (append-nil (b ∷ text))
 nothing_more b text false = sym (append-nil (b ∷ text))
 
--- the lines behind a text that has one
+-- the lines after a text that has one
 grown : (lines : List (List ℕ)) (b : ℕ) (text : List ℕ) (gap : Bool)
     → (after_lines (record { text = b ∷ text; gap = gap }) lines).text
     ≡ (b ∷ text) ++ tail_text (to_come gap (squeezed (map trimmed lines)))

@@ -13,27 +13,28 @@ use Rattle.comment_blocks.specs.Spans.{Piece, gap, plain, indented, is_empty, pi
 use Rattle.comment_blocks.specs.Kinds.{definitions_of, has_heading_form, marked_heading}
 use Rattle.comment_blocks.specs.Lists.{Marked, code_of, items_of, marker_of}
 
--- the line beside is empty, or there is none
+-- the line next to is empty, or there is none
 abbrev pub is_free : List Piece → Bool
 is_free [] = true
 is_free (gap ∷ pieces) = true
 is_free _ = false
 
--- the span beside is there, and plain
+-- the span next to is there, and plain
 abbrev pub plain_beyond : List Piece → Bool
 plain_beyond [] = false
 plain_beyond (gap ∷ pieces) = plain_beyond pieces
 plain_beyond (plain lines ∷ pieces) = true
 plain_beyond (indented lines ∷ pieces) = false
 
--- the text of the heading with its mark that the one line of a span is, where the lines beside it
+-- the text of the heading with its mark that the one line of a span is, where the lines next to it
 -- are free
 abbrev pub marked_between : Bool → List (List ℕ) → Option (List ℕ)
 marked_between free (line ∷ []) = if free then marked_heading line else None
 marked_between free _ = None
 
--- the one line of a span is a heading by its form, where the lines beside it are free and it stands
--- among plain spans; since those exist, the lines beside it are empty
+-- the one line of a span is a heading by its form, where the lines next to it are free and it
+-- stands
+-- among plain spans; since those exist, the lines next to it are empty
 abbrev pub is_formed : Bool → Bool → List (List ℕ) → Bool
 is_formed free among (line ∷ []) = free && among && has_heading_form line
 is_formed free among _ = false
@@ -76,7 +77,7 @@ first_marker (line ∷ lines) = marker_of line
 abbrev pub indented_block : List (List ℕ) → Block
 indented_block lines = list_or_code (first_marker lines) lines
 
--- the blocks of pieces behind others, which stand in reverse
+-- the blocks of pieces after others, which stand in reverse
 abbrev pub blocks_behind : List Piece → List Piece → List Block
 blocks_behind before [] = []
 blocks_behind before (gap ∷ pieces) = blocks_behind (gap ∷ before) pieces

@@ -19,7 +19,7 @@ pub record IsInOrder (scanned : Scanned) : Type 0 where
   pub places : (place : ℕ) (d : Comment) → place < length scanned.comments
       → place < (slice_index_or scanned.comments place d).span.end
 
--- the last place at or before a place at which no comment goes on a group
+-- the last place at or before a place at which no comment continues a group
 pub record IsStart (scanned : Scanned) (place start : ℕ) : Type 0 where
   pub within : start ≤ place
   pub begin : goes_on_at scanned start ≡ false

@@ -48,7 +48,7 @@ has_heading_form line =
     is_exported (chars line) && is_name_end (last_or None (chars line))
     && not (list_any is_heading_mark line)
 
--- the address begins with a scheme, and has something behind it
+-- the address begins with a scheme, and has something after it
 abbrev pub has_scheme : List ℕ → List ℕ → Bool
 has_scheme scheme address =
     starts_with nat_eq address scheme && nat_lt (length scheme) (length address)
@@ -67,7 +67,7 @@ is_bracket b = b == 91 || b == 93
 abbrev pub is_in_brackets : ℕ → Bool
 is_in_brackets b = not (is_bracket b)
 
--- a definition, by what stands behind its text and "]:": blanks and an address
+-- a definition, by what stands after its text and "]:": blanks and an address
 abbrev pub defined_by : List ℕ → List ℕ → Option LinkDef
 defined_by text after =
     if begins_blank after && is_address (without_blanks after)

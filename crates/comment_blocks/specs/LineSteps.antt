@@ -45,7 +45,7 @@ abbrev pub with_done : List LinkDef → Option (List LinkDef) → Option (List L
 with_done done None = None
 with_done done (Some more) = Some (done ++ more)
 
--- how many lines go on the span that begins with a line; behind an empty line none does
+-- how many lines go on the span that begins with a line; after an empty line none does
 abbrev pub span_len : List ℕ → List (List ℕ) → ℕ
 span_len line after =
     if is_plain line then prefix_len is_plain after
@@ -62,7 +62,7 @@ abbrev pub block_at : Bool → Bool → List ℕ → List (List ℕ) → List Pi
 block_at free among [] span pieces = []
 block_at free among (b ∷ line) span pieces = span_block free among (b ∷ line) span pieces ∷ []
 
--- the item that begins with a line and goes on with these, if the line has a marker
+-- the item that begins with a line and continues with these, if the line has a marker
 abbrev pub item_at : Option Marked → List (List ℕ) → List Item
 item_at None more = []
 item_at (Some marked) more = item_of marked more ∷ []

@@ -11,7 +11,7 @@ use Rattle.comment_blocks.specs.Texts.{is_blank}
 use Rattle.comment_blocks.specs.Spans.{is_empty}
 use Rattle.comment_blocks.specs.Kinds.{begins_blank, without_blanks}
 
--- the marker of an item, and the text behind it
+-- the marker of an item, and the text after it
 pub record Marked : Type 0 where
   pub number : List ℕ
   pub text : List ℕ
@@ -26,7 +26,7 @@ marked_with number after =
     if begins_blank after && not (is_empty (without_blanks after))
     then Some (record { number = number; text = without_blanks after }) else None
 
--- behind the digits of a number stands "." or ")"
+-- after the digits of a number stands "." or ")"
 abbrev pub numbered_with : List ℕ → List ℕ → Option Marked
 numbered_with number [] = None
 numbered_with number (b ∷ after) = if b == 46 || b == 41 then marked_with number after else None
@@ -45,7 +45,7 @@ marked_at (b ∷ line) =
     else (if starts_with nat_eq (b ∷ line) bullet then marked_with [] (drop 3 (b ∷ line))
     else None))
 
--- what a line has of an item, behind its blanks
+-- what a line has of an item, after its blanks
 abbrev pub marker_of : List ℕ → Option Marked
 marker_of line = marked_at (without_blanks line)
 
@@ -65,7 +65,7 @@ abbrev pub item_of : Marked → List (List ℕ) → Item
 item_of marked more =
     record { number = marked.number; paragraphs = item_paragraphs (marked.text ∷ more) }
 
--- lines before the first marker, and the items behind them
+-- lines before the first marker, and the items after them
 abbrev pub with_item_line : Option Marked → List ℕ → List (List ℕ) × List Item
     → List (List ℕ) × List Item
 with_item_line None line cut = (line ∷ cut.0, cut.1)

@@ -58,7 +58,7 @@ indented_beyond (gap ∷ pieces) = indented_beyond pieces
 indented_beyond (plain lines ∷ pieces) = false
 indented_beyond (indented lines ∷ pieces) = true
 
--- no span could be longer: none has a plain span beside a plain one, nor the next span indented as
+-- no span could be longer: none has a plain span next to a plain one, nor the next span indented as
 -- itself
 abbrev pub are_apart : List Piece → Bool
 are_apart [] = true
@@ -77,7 +77,7 @@ abbrev pub with_plain : List ℕ → List Piece → List Piece
 with_plain line (plain lines ∷ pieces) = plain (line ∷ lines) ∷ pieces
 with_plain line pieces = plain (line ∷ []) ∷ pieces
 
--- the lines up to the end of the next span, and the pieces behind it, if that span is indented
+-- the lines up to the end of the next span, and the pieces after it, if that span is indented
 abbrev pub behind_gap : Option (List (List ℕ) × List Piece) → Option (List (List ℕ) × List Piece)
 behind_gap None = None
 behind_gap (Some reached) = Some ([] ∷ reached.0, reached.1)

@@ -11,7 +11,7 @@ pub record HasContent (source : List ℕ) (comment : Comment) : Type 0 where
   pub within : content_end comment ≤ length source
   pub utf8 : IsUtf8 (content_of source comment)
 
--- a text so far, and whether an empty line stands behind its last line
+-- a text so far, and whether an empty line stands after its last line
 pub record Begun : Type 0 where
   pub text : List ℕ
   pub gap : Bool

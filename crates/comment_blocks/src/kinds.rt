@@ -17,7 +17,7 @@ use crate::plain::{definitions_of, has_heading_form, joined, marked_heading};
 use go_ast::{Mem, Seq, Txt};
 use std::alloc::Global;
 
-/// Whether the first line is empty, or there is none.
+/// Whether the first line is empty, or there isn't one.
 fn is_free(lines: &[&str]) -> bool
     ensures { result ≡ is_free (pieces_of (texts lines.now)) }
 {

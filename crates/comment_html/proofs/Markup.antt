@@ -59,7 +59,7 @@ ended : (element : Element) (more : List Part) (opened : List Element)
     → are_nested (ends element ∷ more) (element ∷ opened) ≡ are_nested more opened
 ended element more opened = ap (λ b. b && are_nested more opened) (same element)
 
--- the end of an element behind what stands in it, and the end of a line if one follows
+-- the end of an element after what stands in it, and the end of a line if one follows
 before_end : (element : Element) (a : List ℕ) (p : List Part) → IsClosed a p → (more : List Part)
     (opened : List Element)
     → are_nested ((p ++ ends element ∷ []) ++ more) (element ∷ opened) ≡ are_nested more opened

@@ -21,7 +21,7 @@ use Rattle.comment_links.proofs.Addresses.{len_at, run_at}
 pub some_is : (f g : Found) → Some f ≡ Some g → f ≡ g
 some_is f g same = cc
 
--- a scheme and so many bytes behind it
+-- a scheme and so many bytes after it
 take_both : (scheme rest : List ℕ) (n : ℕ) → take (length scheme + n) (scheme ++ rest)
     ≡ scheme ++ take n rest
 take_both [] rest n = ap (λ m. take m rest) (omega arith)
@@ -36,7 +36,7 @@ drop_both (s ∷ scheme) rest n =
     let next : suc (length scheme) + n ≡ suc (length scheme + n) = omega arith in
     ap (λ m. drop m (s ∷ (scheme ++ rest))) next ∙ drop_both scheme rest n
 
--- a scheme, and the bytes of an address behind it
+-- a scheme, and the bytes of an address after it
 pub address_there : (scheme rest after : List ℕ) → list_all is_address_byte rest ≡ true
     → is_address_end (last_or None rest) ≡ true → list_all is_final (address_run after) ≡ true
     → address_by scheme (scheme ++ (rest ++ after)) ≡ Some (self_link (scheme ++ rest))

@@ -9,7 +9,7 @@ use Rattle.comment_blocks.specs.Spans.{one_further}
 use Rattle.comment_links.specs.Marks.{address_run, is_address_byte, is_address_end, is_final}
 use Rattle.comment_links.specs.InlinesOf.{address_len}
 
--- the bytes behind are final, up to the first that no address has
+-- the bytes after are final, up to the first that no address has
 abbrev Ends : List ℕ → Type 0
 Ends text = list_all is_final (address_run text) ≡ true
 
@@ -50,7 +50,7 @@ run_inside b text inside =
     ap (λ n. take n (b ∷ text))
     (cond-true (is_address_byte b) (1 + prefix_len is_address_byte text) 0 inside ∙ next)
 
--- where the bytes behind are final, no more of the address stands there
+-- where the bytes after are final, no more of the address stands there
 none_behind : (text : List ℕ) → Ends text → address_len text ≡ 0
 none_behind [] ends = refl
 none_behind (b ∷ text) ends = ⊎_elim
@@ -85,7 +85,7 @@ ends_there (b ∷ text) none = ⊎_elim
     subst (λ r. list_all is_final r ≡ true) (sym (run_outside b text outside)) refl)
     (cases_Bool (is_address_byte b))
 
--- the bytes of an address, with those behind it
+-- the bytes of an address, with those after it
 pub len_at : (rest after : List ℕ) → list_all is_address_byte rest ≡ true
     → is_address_end (last_or None rest) ≡ true → list_all is_final (address_run after) ≡ true
     → address_len (rest ++ after) ≡ length rest

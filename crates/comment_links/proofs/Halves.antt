@@ -36,7 +36,7 @@ front_free q (x ∷ xs) = ⊎_elim
     (or_from (q x) (list_any q (take (prefix_len (λ b. not (q b)) xs) xs)) no (front_free q xs)))
     (cases_Bool (q x))
 
--- a text in brackets, with what stands behind it
+-- a text in brackets, with what stands after it
 pub bracket_len : (text : List ℕ) → length (91 ∷ (text ++ 93 ∷ [])) ≡ length text + 2
 bracket_len text = omega (arith, length-append text (93 ∷ []))
 

@@ -42,7 +42,7 @@ newline_at bytes n found =
     (λ k below. false_from_ne_true _ (found.0.before k (omega arith) below)) found.1
     ∙ ap (λ m. take n bytes ++ 32 ∷ map as_space (drop m bytes)) next
 
--- a definition behind others
+-- a definition after others
 pub url_behind : (links : List LinkDef) (link : LinkDef) (text : List ℕ) (other : Option (List ℕ))
     → url_or (url_of (links ++ link ∷ []) text) other
     ≡ url_or (url_of links text)

@@ -32,7 +32,7 @@ with_plain-append (b ∷ front) (c ∷ back) (inlines.Plain next ∷ others) =
 with_plain-append (b ∷ front) (c ∷ back) (inlines.Link text href ∷ others) = refl
 
 module _ (links : List LinkDef) (address_of : List ℕ → Option (List ℕ)) where
-  -- the bytes of a mark are passed over
+  -- the bytes of a mark are skipped
   passed : (before text : List ℕ) (left : ℕ) → left ≤ length text
       → inlines_behind links address_of before text left
       ≡ inlines_behind links address_of (before ++ take left text) (drop left text) 0

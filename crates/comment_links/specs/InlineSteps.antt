@@ -27,7 +27,7 @@ abbrev pub url_or : Option (List ℕ) → Option (List ℕ) → Option (List ℕ
 url_or None other = other
 url_or (Some url) other = Some url
 
--- inlines that are done, and the plain text behind them
+-- inlines that are done, and the plain text after them
 pub record Grown : Type 0 where
   pub done : List Inline
   pub plain : List ℕ

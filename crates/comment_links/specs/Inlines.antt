@@ -27,7 +27,7 @@ module _ (links : List LinkDef) (address_of : List ℕ → Option (List ℕ)) (t
     pub whole : text ≡ mark.before ++ (mark.written ++ mark.after)
     pub rule : IsMark links address_of mark
 
-  -- the leftmost mark that begins at a place or behind it
+  -- the leftmost mark that begins at a place or after it
   pub record IsLeftmost (from : ℕ) (mark : Mark) : Type 0 where
     pub here : IsMarkHere mark
     pub behind : from ≤ length mark.before
@@ -35,7 +35,7 @@ module _ (links : List LinkDef) (address_of : List ℕ → Option (List ℕ)) (t
         → length mark.before ≤ length other.before
 
   -- the first mark is the leftmost from a place on, and each other the leftmost from the end of the
-  -- one before it on; behind the last there is none
+  -- one before it on; after the last there is none
   abbrev pub AreMarks : ℕ → List Mark → Type 0
   AreMarks from [] = (other : Mark) → IsMarkHere other → length other.before < from
   AreMarks from (mark ∷ marks) = IsLeftmost from mark × AreMarks (end_of mark) marks

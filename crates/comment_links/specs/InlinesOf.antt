@@ -26,25 +26,25 @@ bracket_link text None = None
 bracket_link text (Some href) =
     Some (record { inline = inlines.Link text href; len = length text + 2 })
 
--- the defined link with a text, by what stands behind the text
+-- the defined link with a text, by what stands after the text
 abbrev pub defined_behind : List LinkDef → List ℕ → List ℕ → Option Found
 defined_behind links text [] = None
 defined_behind links text (b ∷ after) =
     if is_closing b then bracket_link text (url_of links (map as_space text)) else None
 
--- the defined link whose text begins behind the opening bracket
+-- the defined link whose text begins after the opening bracket
 abbrev pub defined_link : List LinkDef → List ℕ → Option Found
 defined_link links tail =
     defined_behind links
     (take (prefix_len is_in_brackets tail) tail) (drop (prefix_len is_in_brackets tail) tail)
 
--- the doc link with a body, by what stands before it and behind it
+-- the doc link with a body, by what stands before it and after it
 abbrev pub doc_with : (List ℕ → Option (List ℕ)) → List ℕ → List ℕ → List ℕ → Option Found
 doc_with address_of before body after =
     if ends_in_name before || begins_in_name after then None
     else bracket_link body (address_of (without_star body))
 
--- the same by what stands behind the body
+-- the same by what stands after the body
 abbrev pub doc_behind : (List ℕ → Option (List ℕ)) → List ℕ → List ℕ → List ℕ → Option Found
 doc_behind address_of before body [] = None
 doc_behind address_of before body (b ∷ after) =
@@ -53,7 +53,7 @@ doc_behind address_of before body (b ∷ after) =
 abbrev pub is_inside : ℕ → Bool
 is_inside b = not (is_closing b)
 
--- the doc link whose body begins behind the opening bracket
+-- the doc link whose body begins after the opening bracket
 abbrev pub doc_link : (List ℕ → Option (List ℕ)) → List ℕ → List ℕ → Option Found
 doc_link address_of before tail =
     doc_behind address_of before
@@ -108,7 +108,7 @@ module _ (links : List LinkDef) (address_of : List ℕ → Option (List ℕ)) wh
       if b == 91 then or_else (defined_link links tail) (doc_link address_of before tail)
       else (if b == 104 || b == 102 then address_at before (b ∷ tail) else quote_at (b ∷ tail))
 
-  -- what is left of a mark behind its first byte
+  -- what is left of a mark after its first byte
   abbrev pub left_of : Option Found → ℕ
   left_of None = 0
   left_of (Some found) = found.len - 1
@@ -118,7 +118,7 @@ module _ (links : List LinkDef) (address_of : List ℕ → Option (List ℕ)) wh
   with_found b None others = with_plain (b ∷ []) others
   with_found b (Some found) others = with_inline found.inline others
 
-  -- the inlines of a text behind another, without its first bytes that belong to a mark
+  -- the inlines of a text after another, without its first bytes that belong to a mark
   abbrev pub inlines_behind : List ℕ → List ℕ → ℕ → List Inline
   inlines_behind before [] covered = []
   inlines_behind before (b ∷ text) (suc covered) = inlines_behind (before ++ b ∷ []) text covered

@@ -12,7 +12,7 @@ use Rattle.comment_blocks.specs.Kinds.{is_bracket, is_name_end}
 use Rattle.comment_links.specs.declared.part.Inline.{Inline}
 use Rattle.comment_links.specs.declared.part.Inline.TheVariants as inlines
 
--- a mark: what stands before it, how it is written, what stands behind it, and what it becomes
+-- a mark: what stands before it, how it is written, what stands after it, and what it becomes
 pub record Mark : Type 0 where
   pub before : List ℕ
   pub written : List ℕ
@@ -78,7 +78,7 @@ pub data IsScheme (scheme : List ℕ) : Type 0 where
   https : scheme ≡ codes "https://" → IsScheme scheme
   ftp : scheme ≡ codes "ftp://" → IsScheme scheme
 
--- a byte that an address may have behind its scheme
+-- a byte that an address may have after its scheme
 abbrev pub is_address_byte : ℕ → Bool
 is_address_byte b =
     is_ascii_alphanumeric b || list_any (λ mark. mark == b) (codes "-._~/?#@!$&*+=%:,;")

@@ -6,7 +6,7 @@ use Rattle.const_eval.specs.declared.operator.Operator.TheVariants as o
 use Rattle.const_eval.specs.declared.lexeme.Lexeme.{Lexeme}
 use Rattle.const_eval.specs.declared.lexeme.Lexeme.TheVariants as l
 
--- what stands beside the first of the texts that is this one
+-- what stands next to the first of the texts that is this one
 abbrev pub lexeme_among : List (List ℕ × Lexeme) → List ℕ → Lexeme
 lexeme_among [] text = l.Operand
 lexeme_among (entry ∷ entries) text = if bytes_eq text entry.0 then entry.1

@@ -1,5 +1,6 @@
 -- Cited by private clauses and proofs. The evaluation of tokens from the left to the right, with a
--- stack of what waits for its operand: the plain program beside the trees. It takes what tokens and
+-- stack of what waits for its operand: the plain program next to the trees. It takes what tokens
+-- and
 -- operators give, so that one program gives both trees and values.
 use Rattle.std.specs.Prelude.{◌≡◌, ℕ, Bool, true, false, ◌≤◌, List, [], ◌∷◌, reverse, take, length}
 use Rattle.std.specs.Prelude.{⊤, Option, Some, None, if◌then◌else◌}

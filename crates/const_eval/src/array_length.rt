@@ -32,7 +32,7 @@ fn tokens_in(tokens: &[Token], run: TokenRange) -> &[Token]
     &rest[..size.min(rest.len())]
 }
 
-/// The value of the expression that tokens are, or `None` where there is none.
+/// The value of the expression that tokens are, or `None` where there isn't one.
 fn run_value(alloc: Global, source: &[u8], tokens: &[Token], names: &Names) -> Mem<Option<i128>>
     ensures { IfOk result
         (λ found. found ≡ run_value (names_of names.now) (texts_of source.now tokens.now)) }

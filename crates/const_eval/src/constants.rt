@@ -20,7 +20,7 @@ pub struct ConstFact {
     /// The name.
     pub name: Txt,
     /// The texts of the tokens, in their order, of the expression for the name's place: where the
-    /// spec is empty, that of the spec before it, and none where there is none.
+    /// spec is empty, that of the spec before it, and none where there isn't one.
     pub value: Seq<Txt>,
     /// The number of the spec in its group, from 0, which `iota` stands for.
     pub iota: u32,
@@ -35,7 +35,7 @@ pub struct Constants {
 /// How many constants have each name.
 type Counts = BTreeMap<String, usize>;
 
-/// The value of the expression that the texts of these tokens are, or `None` where there is none.
+/// The value of the expression that the texts of these tokens are, or `None` where there isn't one.
 fn run_value(alloc: Global, run: &[Txt], names: &Names) -> Mem<Option<i128>>
     ensures { IfOk result (λ found. found ≡ run_value (names_of names.now) run.now) }
 {

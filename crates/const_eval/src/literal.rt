@@ -108,7 +108,7 @@ fn value_after_zero(bytes: &[u8]) -> Option<i128>
 }
 
 /// The value of an integer literal (Go specification, "Integer literals"), or `None` where the
-/// text is none or its value is 2^127 or more.
+/// text isn't one or its value is 2^127 or more.
 fn integer_value(text: &[u8]) -> Option<i128>
     ensures { result ≡ as_number (read_integer text.now) }
 {
@@ -306,7 +306,8 @@ fn rune_value(text: &[u8]) -> Option<i128>
     }
 }
 
-/// The value of an integer or rune literal, or `None` where the text is none or its value is 2^127
+/// The value of an integer or rune literal, or `None` where the text isn't one or its value is
+/// 2^127
 /// or more.
 pub fn literal_value(text: &[u8]) -> Option<i128>
     ensures { result ≡ read_literal text.now }

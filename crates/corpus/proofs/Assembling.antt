@@ -110,7 +110,7 @@ module _ (pieces : List JudgedFile) (files : List File) (same : map seen files �
   others_places prefix grouped is = subst (λ n. All (λ place. place < n) grouped.others) (sym length-borrowed)
       (others_within prefix (facts pieces) grouped (subst (λ fs. IsGrouping prefix fs grouped) borrowed_facts is))
 
--- the numbers of the files beside packages
+-- the numbers of the files next to packages
 pub borrowed_beside : (s : SourceSet) (pieces : List JudgedFile) (files : List File) (prefix : List ℕ) (grouped : Grouped) → AreFilesOf s pieces → map seen files ≡ accepted pieces
     → IsGrouping prefix (map (λ file. fact_of (seen file)) files) grouped → AreBeside pieces (map (slice_index (map number_of files)) grouped.others)
 borrowed_beside s pieces files prefix grouped are same is =

@@ -1,4 +1,4 @@
--- A search by halving among elements whose keys rise finds the first place of a key.
+-- A search by binary search among elements whose keys rise finds the first place of a key.
 use Rattle.std.proofs.Common.{◌≡◌, ℕ, ◌+◌, ◌<◌, ◌≤◌, true, false, List, [], Some, None, map, get_or, length, sym, ap, ◌∙◌, ⊎_elim, arith}
 use Rattle.std.specs.Prelude.{position}
 use Rattle.std.specs.Cmp.Lexicographic.{nat_list_cmp_total, slice_cmp}

@@ -77,7 +77,7 @@ module _ (s : SourceSet) (files : List JudgedFile) (are : AreFilesOf s files) wh
       subst (λ ns. All (λ (a : AcceptedFile). list_any (nat_eq a.number) ns ≡ not (is_kept files a)) (accepted files)) (sym beside.same)
       (told (λ (a : AcceptedFile). a.number) (λ a. not (is_kept files a)) (accepted files) numbers_rise)
 
-  -- whether a number is among those of the files beside packages
+  -- whether a number is among those of the files next to packages
   pub beside_told : (numbers : List ℕ) → AreBeside files numbers → (i : ℕ) (d : JudgedFile) (parsed : Parsed) → i < length files → (get_or files i d).outcome ≡ Accepted parsed
       → list_any (nat_eq i) numbers ≡ not (is_kept files (accepted_file (get_or files i d) parsed))
   beside_told numbers beside i d parsed below outcome =

@@ -105,7 +105,7 @@ other_package own a =
     if own then None
     else Some (record { file = a.number; fault = OtherPackage (package_name a) })
 
--- the fault of a file: that of its outcome, or that it stands beside a package of another name
+-- the fault of a file: that of its outcome, or that it stands next to a package of another name
 abbrev pub fault_as : List JudgedFile → JudgedFile → Outcome → Option FileFault
 fault_as files f (Faulty fault) = Some (record { file = f.number; fault = fault })
 fault_as files f (Accepted parsed) =

@@ -1,5 +1,5 @@
 -- Cited by private clauses and proofs. Accepted files as the code borrows them, and the numbers of
--- those beside packages.
+-- those next to packages.
 use Rattle.std.specs.Prelude.{◌≡◌, ℕ, ◌<◌, ◌≤◌, List, All, filter, length, map, not, IsUtf8}
 use Rattle.package_group.specs.declared.facts.Package.{Package}
 use Rattle.corpus.specs.declared.accepted.Accepted.{Accepted}
@@ -40,11 +40,11 @@ pub record HasPlacesOf (files : List Accepted) (p : Package) : Type 0 where
 abbrev pub AreRising : List ℕ → Type 0
 AreRising numbers = IsStrictlySortedBy nat_cmp numbers
 
--- the numbers of the accepted files that stand beside packages of other names
+-- the numbers of the accepted files that stand next to packages of other names
 pub record AreBeside (files : List JudgedFile) (numbers : List ℕ) : Type 0 where
   pub same : numbers ≡ map (λ a. a.number) (filter (λ a. not (is_kept files a)) (accepted files))
   pub rising : AreRising numbers
 
--- the bytes of an accepted file beside its hits
+-- the bytes of an accepted file next to its hits
 abbrev pub source_of : AcceptedFile → List ℕ × List Hit
 source_of a = (a.bytes, a.parsed.hits)

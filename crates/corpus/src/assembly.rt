@@ -62,7 +62,8 @@ fn make_tables(alloc: Global, snapshot: &Snapshot, pieces: &[Piece]) -> Mem<Tabl
 ///
 /// Its packages are those that the accepted files make up, one for each folder (Go specification,
 /// "Packages"). Its faults are those of the outcomes, and `OtherPackage` for an accepted file that
-/// stands beside a package of another name; such a file is in no package and has no hits. The table
+/// stands next to a package of another name; such a file is in no package and has no hits. The
+/// table
 /// has the identifiers of all other accepted files.
 ///
 /// # Errors

@@ -140,7 +140,8 @@ impl Corpus {
         }
     }
 
-    /// The number of the file at a path, or `None` where no file has it. It looks by halving, and
+    /// The number of the file at a path, or `None` where no file has it. It looks by binary
+    /// search, and
     /// takes no memory.
     pub fn find_file(&self, path: &str) -> Option<u32>
         ensures { result ≡ position (bytes_eq path.now) (paths_of self.now.sources.entries) }

@@ -22,7 +22,7 @@ pub(crate) fn is_among(numbers: &[u32], number: u32) -> bool
     numbers.binary_search(&number).is_ok()
 }
 
-/// The fault of an accepted file that stands beside a package of another name.
+/// The fault of an accepted file that stands next to a package of another name.
 fn other_package(alloc: Global, file: &Accepted) -> Mem<FileFault>
     requires { HasName (seen file.now) }
     ensures { IfOk result (λ fault. Some fault ≡ other_package false (seen file.now)) }
@@ -35,7 +35,7 @@ fn other_package(alloc: Global, file: &Accepted) -> Mem<FileFault>
 }
 
 /// The fault of a file, where it has one: that of its outcome, or that it is among those that stand
-/// beside packages of other names.
+/// next to packages of other names.
 fn fault_of(
     alloc: Global,
     snapshot: &Snapshot,
@@ -66,7 +66,7 @@ fn fault_of(
 }
 
 /// The faults of the files of a snapshot, where these numbers are those of the accepted files that
-/// stand beside packages of other names.
+/// stand next to packages of other names.
 pub(crate) fn faults_of(
     alloc: Global,
     snapshot: &Snapshot,

@@ -19,9 +19,9 @@ pub const MAX_SCAN_BYTES: u64 = 134_217_728;
 /// Why a scan doesn't go into a corpus.
 #[derive(Debug, Drop)]
 pub enum TooLarge {
-    /// It has so many files, more than [`MAX_FILES`].
+    /// It has this many files, more than [`MAX_FILES`].
     TooManyFiles(u64),
-    /// Its files have so many bytes together, more than [`MAX_SCAN_BYTES`].
+    /// Its files have this many bytes together, more than [`MAX_SCAN_BYTES`].
     TooManyBytes(u64),
     /// An allocation was refused.
     NoMemory,
@@ -105,7 +105,8 @@ impl Snapshot {
         &self.entries.as_slice()[number as usize].1
     }
 
-    /// The number of the file at a path, or `None` where no file has it. It looks by halving, and
+    /// The number of the file at a path, or `None` where no file has it. It looks by binary
+    /// search, and
     /// takes no memory.
     pub fn find_file(&self, path: &str) -> Option<u32>
         ensures { result ≡ position (bytes_eq path.now) (paths_of self.now.entries) }

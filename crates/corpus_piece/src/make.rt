@@ -135,7 +135,7 @@ fn outcome_of(
 /// Its outcome is the first of these that applies: `Faulty(Unread)` where the file could not be
 /// read; `Faulty(FileTooLarge)` where it has more than [`MAX_SOURCE_BYTES`]; the fault of a source
 /// that has no reading (`NotUtf8`, `BadToken`, `OpenComment`, `OpenString`), also where the file
-/// would be passed over; `Faulty(BadBuildLine)`; `Ignored(ByName)`; `Ignored(ByLine)`; the fault of
+/// would be skipped; `Faulty(BadBuildLine)`; `Ignored(ByName)`; `Ignored(ByLine)`; the fault of
 /// tokens that spell no file (`Unbalanced`, `NoPackageClause`, `BadDeclaration`); else `Accepted`.
 /// Lines and chunks count from 1, offsets are in bytes. (Go specification, "Lexical elements",
 /// "Source file organization"; the go command, "Build constraints".)

@@ -18,7 +18,7 @@ pub struct Parsed {
 /// What becomes of a file for a configuration.
 #[derive(Debug, Drop)]
 pub enum Outcome {
-    /// It is passed over.
+    /// It is skipped.
     Ignored(Why),
     /// It is refused for this fault, the first that applies.
     Faulty(Fault),

@@ -1,4 +1,4 @@
--- Sorted names, and where a search by halving ends in them.
+-- Sorted names, and where a search by binary search ends in them.
 use Rattle.std.proofs.Common.{◌≡◌, ◌<◌, ◌≤◌, ℕ, Bool, true, false, List, length, map, get_or, refl}
 use Rattle.std.proofs.Common.{sym, ap, ◌∙◌, subst, arith, position, Option, Some, None, IsSorted}
 use Rattle.std.proofs.Common.{inl, inr}

@@ -28,7 +28,7 @@ fn first_exported(specs: &[SpecFact]) -> Option<&SpecFact>
     specs.iter().find(|spec| has_exported_name(spec))
 }
 
-/// The first of the names, or the empty text where there is none.
+/// The first of the names, or the empty text where there isn't one.
 fn first_name(names: &[Txt]) -> &str
     ensures { result.now ≡ first_name names.now }
 {

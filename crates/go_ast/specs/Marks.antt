@@ -30,7 +30,7 @@ closes _ = false
 unfoldable pub same_mark : Mark → Mark → Bool
 same_mark = sameb the_type
 
--- the mark beside the first of the spellings that is this text
+-- the mark next to the first of the spellings that is this text
 abbrev pub mark_among : List (List ℕ × Mark) → List ℕ → Mark
 mark_among [] text = m.Other
 mark_among (spelling ∷ spellings) text = if bytes_eq text spelling.0 then spelling.1

@@ -25,7 +25,7 @@ pub enum Fault {
     NoPackageClause,
     /// This chunk of the file, whose first token stands on this line, is no declaration.
     BadDeclaration(u32, u32),
-    /// The file names this package, beside another in its folder.
+    /// The file names this package, next to another in its folder.
     OtherPackage(Txt),
     /// The file has more than [`MAX_SOURCE_BYTES`](crate::MAX_SOURCE_BYTES) bytes.
     FileTooLarge,

@@ -1,7 +1,7 @@
 //! Types as they are written in a source (Go specification, "Types").
 //!
 //! Names, tags and length runs are places in the source and in its list of tokens. Parentheses
-//! round a type leave nothing behind.
+//! round a type leave no node.
 
 use crate::token::{Span, TokenRange};
 use plain_data::Seq;

@@ -102,7 +102,7 @@ fn the_first_bracket_that_does_not_match_is_named(rt: HostRuntime) -> Result<(),
     Ok(())
 }
 
-/// Adds a bracket so many times, from an offset on.
+/// Adds a bracket this many times, from an offset on.
 fn add(tokens: &mut Seq<Token>, offset: u32, count: u32) -> Mem<()> {
     for place in 0..count {
         let start = offset.saturating_add(place);

@@ -18,7 +18,7 @@ use std::alloc::Global;
 pub enum Declared {
     /// These declarations.
     All(Seq<Decl>),
-    /// So many declarations, and then a chunk that is none in its place.
+    /// This many declarations, and then a chunk that isn't one in its place.
     Bad(usize),
 }
 
@@ -63,7 +63,7 @@ fn in_place(
     }
 }
 
-/// The declarations of the chunks behind the package clause.
+/// The declarations of the chunks after the package clause.
 pub fn declarations(
     alloc: Global,
     source: &[u8],

@@ -135,7 +135,7 @@ fn a_file_has_its_declarations_in_order(rt: HostRuntime) -> Result<(), Fail> {
     Ok(())
 }
 
-/// A file whose text has some parts so many times.
+/// A file whose text has some parts this many times.
 fn repeated(
     alloc: Global,
     front: &str,

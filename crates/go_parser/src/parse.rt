@@ -25,9 +25,10 @@ use std::alloc::Global;
 pub enum Parsed {
     /// This file.
     File(File),
-    /// The first of them is no package clause, or there is none.
+    /// The first of them isn't a package clause, or there isn't one.
     NoClause,
-    /// So many declarations follow the package clause, and then a chunk that is none in its place.
+    /// This many declarations follow the package clause, and then a chunk that isn't one in its
+    /// place.
     Bad(usize),
 }
 
@@ -60,7 +61,7 @@ fn line_of(source: &[u8], offset: u32) -> u32
     before.iter().filter(|byte| **byte == b'\n').count() as u32 + 1
 }
 
-/// The fault of the chunk behind the package clause and so many declarations.
+/// The fault of the chunk after the package clause and this many declarations.
 fn bad_declaration(source: &[u8], tokens: &[Token], chunks: &[Chunk], at: usize) -> Fault
     requires size { length source.now ≤ MAX_SOURCE_BYTES }
     requires few { length tokens.now < 2 ^ 32 }

@@ -37,7 +37,7 @@ fn declaration_of(alloc: Global, text: &str, scanned: &Scanned) -> Read<Decl> {
     declared(alloc, extent, &words.all())
 }
 
-/// The declaration that a text is, as debug output shows it; empty where it is none.
+/// The declaration that a text is, as debug output shows it; empty where it isn't one.
 fn shown(rt: &(impl Abort + AllocGlobal), text: &str) -> Result<String, Fail> {
     assert!(rt; text.len() <= MAX_SOURCE_BYTES);
     match scan(rt.alloc(), text.as_bytes()) {

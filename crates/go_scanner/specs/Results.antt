@@ -7,12 +7,12 @@ use Rattle.go_ast.specs.declared.token.Token.{Token}
 use Rattle.go_ast.specs.declared.token.Comment.{Comment}
 use Rattle.go_ast.specs.Reading.{Reads, ScanFault}
 
--- a source is refused for its fault, or for want of memory
+-- a source is refused for its fault, or for lack of memory
 abbrev pub RefusedFor : List ℕ → Refused → Type 0
 RefusedFor bytes (refusals.Fault fault) = ScanFault bytes fault
 RefusedFor bytes refusals.NoMemory = ⊤
 
--- a refusal for this fault, or for want of memory
+-- a refusal for this fault, or for lack of memory
 abbrev pub IsRefusedAs : Fault → Refused → Type 0
 IsRefusedAs fault (refusals.Fault found) = found ≡ fault
 IsRefusedAs fault refusals.NoMemory = ⊤

@@ -1,5 +1,5 @@
 -- Cited by private clauses and proofs. What stands at the front of some bytes, found by one test
--- after another: the plain program beside the definition of the items of a source, which gives the
+-- after another: the plain program next to the definition of the items of a source, which gives the
 -- same.
 use Rattle.std.specs.Prelude.{ℕ, ◌+◌, ◌-◌, Bool, true, false, ◌&&◌, not, List, [], ◌∷◌, length}
 use Rattle.std.specs.Prelude.{take, drop, if◌then◌else◌, ◌==◌, nat_eq, nat_lt, Option, Some, None}

@@ -86,7 +86,7 @@ fn mark_shape(mark: &[u8]) -> Shape
     Shape::Token(TokenKind::Operator, ends_statement(mark), mark.len())
 }
 
-/// The longest operator at the front, or `None` where there is none.
+/// The longest operator at the front, or `None` where there isn't one.
 #[tactic(auto, using(crate::proofs::Marks::operator_shape_of_length, crate::proofs::Marks::operator_length_within))]
 #[inline(always)]
 pub fn operator_shape(rest: &[u8]) -> Option<Shape>

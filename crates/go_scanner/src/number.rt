@@ -243,7 +243,7 @@ fn number_kind(bytes: &[u8]) -> Option<TokenKind>
     }
 }
 
-/// The number that the run at the front is, or `None` where it is none.
+/// The number that the run at the front is, or `None` where it isn't one.
 #[tactic(auto, using(crate::proofs::Runs::length_number_run), unfolding(crate::specs::Shapes::number_shape))]
 pub fn number_shape(rest: &[u8]) -> Option<Shape>
     requires { 0 < length rest.now }

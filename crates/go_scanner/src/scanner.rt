@@ -83,7 +83,7 @@ fn push_comment(comments: &mut Vec<Comment>, general: bool, start: u32, end: u32
     Ok(())
 }
 
-/// How many bytes the byte order mark at the start has, or 0 where there is none.
+/// How many bytes the byte order mark at the start has, or 0 where there isn't one.
 fn mark_length(source: &[u8]) -> usize
     ensures { result ≡ mark_length source.now }
 {

@@ -8,15 +8,16 @@ use go_ast::TokenKind;
 /// What kind of item stands at a place, and its length in bytes.
 #[derive(Clone, Copy, Debug, PartialEq, Eq)]
 pub enum Shape {
-    /// White space without a newline, or the byte order mark: so many bytes.
+    /// White space without a newline, or the byte order mark: this many bytes.
     Blank(usize),
     /// A newline.
     LineEnd,
-    /// A line comment of so many bytes.
+    /// A line comment of this many bytes.
     Comment(usize),
-    /// A general comment of so many bytes, and whether it holds a newline.
+    /// A general comment of this many bytes, and whether it holds a newline.
     General(usize, bool),
-    /// A token of this kind and of so many bytes, and whether it takes a semicolon at the end of a
+    /// A token of this kind and of this many bytes, and whether it takes a semicolon at the end of
+    /// a
     /// line.
     Token(TokenKind, bool, usize),
 }

@@ -73,7 +73,7 @@ fn is_octal_escape(digits: &[u8]) -> bool
     digits.len() == 3 && are_octal(digits) && value_of(8, digits) < 256
 }
 
-/// Whether so many digits may follow this letter, and name a scalar value where they have to.
+/// Whether this many digits may follow this letter, and name a scalar value where they have to.
 fn is_coded(letter: u8, digits: &[u8]) -> bool
     ensures { result ≡ is_coded letter digits.now }
 {
@@ -92,7 +92,7 @@ fn is_hexadecimal_escape(letter: u8, digits: &[u8]) -> bool
     are_hexadecimal(digits) && is_coded(letter, digits)
 }
 
-/// How many bytes at most so many.
+/// How many bytes at most this many.
 fn front(bytes: &[u8], length: usize) -> &[u8]
     ensures { result.now ≡ take length bytes.now }
 {
@@ -103,8 +103,8 @@ fn front(bytes: &[u8], length: usize) -> &[u8]
     }
 }
 
-/// How many bytes an escape with this letter and so many digits has after its `\`, whose letter
-/// stands before these bytes, or 0 where there is none.
+/// How many bytes an escape with this letter and this many digits has after its `\`, whose letter
+/// stands before these bytes, or 0 where there isn't one.
 fn coded_length(letter: u8, digits: usize, bytes: &[u8]) -> usize
     requires { digits ≤ 8 }
     ensures value { result ≡ coded_length letter digits bytes.now }
@@ -117,7 +117,7 @@ fn coded_length(letter: u8, digits: usize, bytes: &[u8]) -> usize
     }
 }
 
-/// How many bytes the escape has whose `\` stands before these bytes, or 0 where there is none.
+/// How many bytes the escape has whose `\` stands before these bytes, or 0 where there isn't one.
 pub fn escape_length(quote: u8, bytes: &[u8]) -> usize
     ensures value { result ≡ escape_length quote bytes.now }
     ensures short { result ≤ 9 }
@@ -210,7 +210,7 @@ pub fn rune_shape(text: &str) -> Option<Shape>
     }
 }
 
-/// How many bytes stand before the next back quote, or their number where there is none.
+/// How many bytes stand before the next back quote, or their number where there isn't one.
 pub fn raw_length(bytes: &[u8]) -> usize
     ensures { result ≡ raw_length bytes.now }
 {

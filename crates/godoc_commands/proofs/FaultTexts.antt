@@ -23,14 +23,14 @@ digits_escaped (d ∷ ds) h =
 number_escaped : (n : ℕ) → n < 2 ^ 64 → escaped (decimal n) ≡ decimal n
 number_escaped n h = digits_escaped (decimal n) (decimal_is_IsNumeral n h).0.1
 
--- two texts, the second behind the first
+-- two texts, the second after the first
 pub two_escaped : (old a b one new : List ℕ) → one ≡ old ++ escaped a → new ≡ one ++ escaped b
     → new ≡ old ++ escaped (a ++ b)
 two_escaped old a b one new e f =
     f ∙ ap (λ t. t ++ escaped b) e ∙ append_assoc old (escaped a) (escaped b)
     ∙ ap (λ t. old ++ t) (sym (flat_map-append escape_of a b))
 
--- words, and a number behind them
+-- words, and a number after them
 pub numbered : (old words one new : List ℕ) (n : ℕ) → n < 2 ^ 64 → one ≡ old ++ escaped words
     → new ≡ one ++ decimal n
     → new ≡ old ++ escaped (words ++ decimal n)

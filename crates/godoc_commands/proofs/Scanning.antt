@@ -20,7 +20,7 @@ bytes_of-push sources path entry =
     sum_by-append (λ (s : List ℕ × Entry). size_of s.1) sources ((path, entry) ∷ [])
     ∙ ap (λ n. bytes_of sources + n) (zero-add (size_of entry))
 
--- what holds of all holds of those behind
+-- what holds of all holds of those after
 pub all_behind : {X : Type 0} (P : X → Type 0) (xs ys : List X) → All P (xs ++ ys) → All P ys
 all_behind P [] ys h = h
 all_behind P (x ∷ xs) ys h = all_behind P xs ys (All-tail P x (xs ++ ys) h)

@@ -97,7 +97,7 @@ Serves-session edition left left_after held held_after old new result s begins =
     serves_by edition left left_after held held_after old new result begins.0 s (sym begins.1)
     (entries_are edition s.entries known)
 
--- a session that was not begun for want of memory
+-- a session that was not begun for lack of memory
 pub Serves-unbegun : (edition : Edition) (left held : Option (List ℕ))
     → Serves edition left left held held ends.NoMemory
 Serves-unbegun edition left held =

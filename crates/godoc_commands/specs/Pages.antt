@@ -57,7 +57,7 @@ unfoldable pub faults_line : ℕ → List ℕ
 faults_line count = if count == 0 then []
     else codes "<p><a href=\"/faults\">" ++ decimal count ++ codes " files with faults</a></p>\n"
 
--- the page that lists the packages with these paths, beside so many files with faults
+-- the page that lists the packages with these paths, next to so many files with faults
 abbrev pub list_page : List (List ℕ) → ℕ → List ℕ
 list_page paths faults = page_with (codes "Packages")
     (list_start ++ flat_map package_line paths ++ list_end ++ faults_line faults)

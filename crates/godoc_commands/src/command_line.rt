@@ -27,7 +27,7 @@ impl CommandLine {
     }
 }
 
-/// Takes the first word off: the empty text where there is none.
+/// Takes the first word off: the empty text where there isn't one.
 fn take_first(alloc: Global, words: &mut Vec<String>) -> String
     ensures first { string_bytes result ≡ slice_index_or (map string_bytes words.old.items) 0 [] }
     ensures rest { map string_bytes words.new.items ≡ drop 1 (map string_bytes words.old.items) }

@@ -25,7 +25,7 @@ use tree_io::Tree;
 /// opens a scan of the tree, reads its files one after another, and writes a line `PATH:LINE:COL`
 /// for each identifier with that name, by rising path and offset. Lines and columns are counted
 /// from 1, and columns in bytes. Files with a fault, files that aren't for Go 1.23 on linux and
-/// amd64, and files beside a package of another name are left out.
+/// amd64, and files next to a package of another name are left out.
 ///
 /// The word `answer` alone asks for the replies to the requests of one connection. The call scans
 /// the tree once, and serves the input and the output as the two ways of the connection, by the
@@ -58,7 +58,7 @@ pub fn run<R: Wait, T: Tree, I: Source, O: Sink>(
         → IsOfAnswer result }
 
     // A fault comes only where its count rose by one in this call, or stands at its end, and
-    // anything else only where the count is as it was.
+    // anything else only where the count is unchanged.
     ensures list_faults { IsCaused (T.list_faults tree.old) (T.list_faults tree.new)
         (result ≡ Status.TreeFault) }
     ensures read_faults { IsCaused (I.read_faults input.old) (I.read_faults input.new)
@@ -94,7 +94,7 @@ pub fn run<R: Wait, T: Tree, I: Source, O: Sink>(
         (T.read_faults tree.old) (T.read_faults tree.new) (O.held out.old) (O.held out.new) }
 
     // Exactly the text of the connection, by the one edition that the sources of that scan define
-    // by that configuration, or what a session leaves that fails. Where memory is wanting for the
+    // by that configuration, or what a session leaves that fails. Where there is no memory for the
     // edition nothing is read or written.
     ensures answered { command_of (map string_bytes words.now) ≡ Some answer
         → (IsOfTree result → ⊥) → result ≢ Status.NoMemory
@@ -108,7 +108,7 @@ pub fn run<R: Wait, T: Tree, I: Source, O: Sink>(
         (T.read_faults tree.old) (T.read_faults tree.new)
         (I.remaining input.old) (I.remaining input.new) (O.held out.old) (O.held out.new) result }
 
-    // Where no count of faults rose or stands at its end, only want of memory and the limits keep
+    // Where no count of faults rose or stands at its end, only `NoMemory` and the limits keep
     // a command from its end.
     ensures complete { ¬ (command_of (map string_bytes words.now) ≡ None)
         → ¬ (Rose (T.list_faults tree.old) (T.list_faults tree.new))

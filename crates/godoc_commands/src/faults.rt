@@ -48,7 +48,7 @@ fn push_bad_declaration(text: &mut Text, chunk: u32, line: u32) -> Mem<()>
     push_numbered(text, " at line ", line)
 }
 
-/// Appends the text of a file beside another package, by the name in its package clause.
+/// Appends the text of a file next to another package, by the name in its package clause.
 fn push_other_package(text: &mut Text, name: &str) -> Mem<()>
     ensures { OnOk result
         (text.new ≡ text.old ++ escaped (fault_text (Fault.OtherPackage name.now))) }

@@ -36,7 +36,7 @@ fn start_page(alloc: Global, title: &str) -> Mem<Text>
     Ok(text)
 }
 
-/// Ends a page behind its body part.
+/// Ends a page after its body part.
 #[tactic(auto, unfolding(crate::specs::Pages::page_end))]
 fn end_page(mut text: Text) -> Mem<Vec<u8>>
     ensures { IfOk result (λ page. page.items ≡ text ++ page_end) }

@@ -26,9 +26,9 @@ use tree_io::{Entry, Tree, read_entry};
 pub(crate) enum ScanFault {
     /// The tree could not be listed.
     TreeFault,
-    /// The tree has more files than are allowed, so many.
+    /// The tree has more files than are allowed, this many.
     TooManyFiles(u64),
-    /// The files have more bytes than are allowed, so many up to the first with which they do.
+    /// The files have more bytes than are allowed, this many up to the first with which they do.
     TooManyBytes(u64),
     /// An allocation was refused.
     NoMemory,

@@ -11,7 +11,7 @@ status_of statuses.BadRequest = codes "400 Bad Request"
 status_of statuses.NotFound = codes "404 Not Found"
 status_of statuses.NotAllowed = codes "405 Method Not Allowed"
 
--- the methods that are allowed, beside 405 (RFC 9110, section 10.2.1)
+-- the methods that are allowed, next to 405 (RFC 9110, section 10.2.1)
 abbrev pub allow_line : Code → List ℕ
 allow_line statuses.NotAllowed = codes "Allow: GET, HEAD\r\n"
 allow_line _ = []

@@ -34,7 +34,7 @@ impl Code {
         }
     }
 
-    /// The line that names the allowed methods, beside 405 alone.
+    /// The line that names the allowed methods, next to 405 alone.
     fn allow_line(self) -> &'static str
         ensures { result.now ≡ allow_line self }
     {

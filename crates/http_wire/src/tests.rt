@@ -48,7 +48,7 @@ fn heads_in(alloc: Global, pieces: &[&[u8]], ended: bool) -> Mem<String> {
     Ok(log)
 }
 
-/// A head of so many bytes, from 32 on.
+/// A head of this many bytes, from 32 on.
 fn head_of(alloc: Global, len: usize) -> Mem<Vec<u8>> {
     let mut head = Vec::from_slice(alloc, b"GET / HTTP/1.1\r\nHost: a\r\nX: ")?;
     for _ in 32..len {
@@ -58,7 +58,7 @@ fn head_of(alloc: Global, len: usize) -> Mem<Vec<u8>> {
     Ok(head)
 }
 
-/// A head with so many fields.
+/// A head with this many fields.
 fn head_with(alloc: Global, fields: usize) -> Mem<Vec<u8>> {
     let mut head = Vec::from_slice(alloc, b"GET / HTTP/1.1\r\nHost: a\r\n")?;
     for _ in 1..fields {

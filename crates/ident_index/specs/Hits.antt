@@ -58,7 +58,7 @@ hits_with_text name read =
 abbrev pub IsReadFile : ReadFile → Type 0
 IsReadFile read = (comments : List Comment) × Reads read.source read.tokens comments
 
--- the source of a file beside its hits
+-- the source of a file next to its hits
 abbrev pub source_and_hits_of : ReadFile → List ℕ × List Hit
 source_and_hits_of read =
     (read.source, hits_of read.source read.tokens read.file read.number)

@@ -30,7 +30,7 @@ pub record NamedHit : Type 0 where
 abbrev pub named_of : List ℕ → List Hit → List NamedHit
 named_of source hits = map (λ hit. record { name = name_at source hit.offset; hit = hit }) hits
 
--- the hits of all these sources, each of which stands beside its hits, with their names
+-- the hits of all these sources, each of which stands next to its hits, with their names
 abbrev pub named_of_all : List (List ℕ × List Hit) → List NamedHit
 named_of_all sources = flat_map (λ s. named_of s.0 s.1) sources
 

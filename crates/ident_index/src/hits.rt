@@ -16,7 +16,7 @@ use go_ast::{File, Scanned, TokenKind};
 use plain_data::{Mem, Seq};
 use std::alloc::Global;
 
-/// How many lines begin at or before an offset, where so many are known to.
+/// How many lines begin at or before an offset, where this many are known to.
 fn lines_to(starts: &[u32], known: usize, offset: u32) -> usize
     requires { AreLinesTo starts.now offset known }
     ensures so_many { AreLinesTo starts.now offset result }
@@ -29,7 +29,7 @@ fn lines_to(starts: &[u32], known: usize, offset: u32) -> usize
     count
 }
 
-/// How many names stand before an offset, where so many are known to.
+/// How many names stand before an offset, where this many are known to.
 fn names_before(names: &[Name], known: usize, offset: u32) -> usize
     requires { AreNamesBefore names.now offset known }
     ensures so_many { AreNamesBefore names.now offset result }
@@ -43,7 +43,7 @@ fn names_before(names: &[Name], known: usize, offset: u32) -> usize
     count
 }
 
-/// What the identifier at an offset is, where so many names stand before it.
+/// What the identifier at an offset is, where this many names stand before it.
 fn kind_at(names: &[Name], before: usize, offset: u32) -> HitKind
     requires rising { IsNonDecreasingBy (λ name. name.0) names.now }
     requires so_many { AreNamesBefore names.now offset before }

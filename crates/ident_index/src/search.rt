@@ -1,4 +1,4 @@
-//! The search for a name by halving.
+//! The search for a name by binary search.
 
 ghost use Rattle.std.specs.Prelude.{◌≡◌, ℕ, ◌≤◌, ◌<◌, ◌-◌, ◌+◌, ◌*◌, ◌^◌, length, AllPairs, All};
 ghost use Rattle.std.specs.Prelude.{MatchOption, false};

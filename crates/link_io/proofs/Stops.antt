@@ -1,4 +1,4 @@
--- Where a read stops: behind its first byte where there is one, and not behind the end.
+-- Where a read stops: after its first byte where there is one, and not after the end.
 use Rattle.std.proofs.Common.{◌≡◌, ℕ, ◌+◌, ◌-◌, ◌<◌, ◌≤◌, ◌↔◌, Bool, true, false, ltb, List, [], ◌∷◌, ◌++◌, length, take, drop, map, min, fold, filter, refl, sym, ap, subst, arith, cond}
 use Rattle.std.proofs.Math.Seq.{take-append_seam}
 use Rattle.std.proofs.lemmas.List.{drop-drop, drop_all, length-drop, length-take-le, take-append-drop}
@@ -11,7 +11,7 @@ pub least-le : (cuts : List ℕ) (end : ℕ) → fold min end cuts ≤ end
 least-le [] end = omega arith
 least-le (cut ∷ cuts) end = omega (arith, least-le cuts (min end cut))
 
--- cuts behind some bytes leave room
+-- cuts after some bytes leave room
 pub least-positive : (position : ℕ) (cuts : List ℕ) (end : ℕ) → 0 < end → 0 < fold min end (cuts_behind position cuts)
 least-positive position [] end h = h
 least-positive position (cut ∷ cuts) end h =
@@ -19,7 +19,7 @@ least-positive position (cut ∷ cuts) end h =
     (λ behind. let before : position < cut = ltb-true position cut behind in least-positive position cuts (min end (cut - position)) (omega arith))
     (λ _. least-positive position cuts end h)
 
--- the first of some cuts, which is behind some bytes and more where it is behind both parts of them
+-- the first of some cuts, which is after some bytes and more where it is after both parts of them
 first_cut : (whole rest : ℕ → ℕ) (is_behind : ℕ → Bool) (front : ℕ → ℕ) (cut : ℕ) (all some : List ℕ) (a b : Bool) → (a ≡ true → b ≡ true) → (b ≡ true → is_behind (front cut) ≡ a) → whole cut ≡ rest (front cut) → map whole all ≡ map rest (filter is_behind (map front some)) → map whole (cond a (cut ∷ all) all) ≡ map rest (filter is_behind (map front (cond b (cut ∷ some) some)))
 first_cut whole rest is_behind front cut all some true true _ same here more =
     let others : List ℕ = filter is_behind (map front some) in
@@ -30,7 +30,7 @@ first_cut whole rest is_behind front cut all some false true _ same _ more =
     subst (λ (w : Bool). map whole all ≡ map rest (cond w (front cut ∷ others) others)) (sym (same refl)) more
 first_cut whole rest is_behind front cut all some false false _ _ _ more = more
 
--- cuts behind some bytes, and behind some more
+-- cuts after some bytes, and after some more
 pub cuts_behind-more : (cuts : List ℕ) (position n : ℕ) → cuts_behind (position + n) cuts ≡ cuts_behind n (cuts_behind position cuts)
 cuts_behind-more [] position n = refl
 cuts_behind-more (cut ∷ cuts) position n =

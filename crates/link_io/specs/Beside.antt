@@ -11,7 +11,7 @@ pub record Beside : Type 0 where
 abbrev pub nothing : Beside
 nothing = record { bytes = None; faults = 0 }
 
--- a call left what stands beside a stream, and the references in it
+-- a call left what stands next to a stream, and the references in it
 pub record Leaves {Stream : Type 0} (beside : Stream → Beside) (references : Stream → List ℕ)
     (old new : Stream) : Type 0 where
   pub alone : beside new ≡ beside old

@@ -36,7 +36,7 @@ remaining_of source = Some source.remaining
 abbrev pub held_of : SinkState → Option (List ℕ)
 held_of sink = Some sink.held
 
--- the cuts behind the first n bytes, counted from there
+-- the cuts after the first n bytes, counted from there
 abbrev pub cuts_behind : ℕ → List ℕ → List ℕ
 cuts_behind n cuts = map (λ cut. cut - n) (filter (λ cut. nat_lt n cut) cuts)
 

@@ -7,7 +7,7 @@ use Rattle.std.specs.declared.option.Option.{Option}
 abbrev pub Takes : Option (List ℕ) → List ℕ → Option (List ℕ) → Type 0
 Takes before bytes after = before ≡ option_map (λ rest. bytes ++ rest) after
 
--- the bytes were added behind those that were held
+-- the bytes were added after those that were held
 abbrev pub Adds : Option (List ℕ) → List ℕ → Option (List ℕ) → Type 0
 Adds before bytes after = after ≡ option_map (λ held. held ++ bytes) before
 

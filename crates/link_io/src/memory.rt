@@ -68,7 +68,7 @@ impl Source for MemSource {
     ghost read_faults = { λ source. source.faults };
 
     /// Moves as many bytes as the buffer takes, up to the next cut or the end. It fails exactly
-    /// where its number is one of those that fail, or 2 ^ 64 - 1. What stands behind the bytes in
+    /// where its number is one of those that fail, or 2 ^ 64 - 1. What stands after the bytes in
     /// the buffer stays; after a failure the whole buffer does.
     fn read(&mut self, buf: &mut [u8]) -> Result<usize, Failed>
         ensures reads { Reads self.old self.new buf.old buf.new result }

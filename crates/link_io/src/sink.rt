@@ -20,10 +20,10 @@ pub trait Sink {
     ghost beside: { Self → Beside } = { λ _. nothing };
 
     /// The ghost names of the references that stand in the sink. Calls leave them, so that whoever
-    /// lent them knows what became of the values behind them.
+    /// lent them knows what became of the values they refer to.
     ghost references: { Self → List ℕ } = { λ _. [] };
 
-    /// Adds the first bytes of a piece behind those that are held, and returns how many: from 1 to
+    /// Adds the first bytes of a piece after those that are held, and returns how many: from 1 to
     /// the piece's length, and 0 for an empty piece.
     ///
     /// A write that fails adds no byte. It returns [`Failed`] only where the count of faults rose
@@ -38,7 +38,7 @@ pub trait Sink {
 ///
 /// After [`Failed`] the sink has a first part of the piece, which ends before the piece does.
 /// `Failed` is returned only where the count of faults rose by one in this call, since one write
-/// failed, or stands at its end; where the whole piece was written, the count is as it was.
+/// failed, or stands at its end; where the whole piece was written, the count is unchanged.
 pub fn write_whole<O: Sink>(out: &mut O, piece: &[u8]) -> Result<(), Failed>
     ensures ok { OnOk result (Adds (O.held out.old) piece.now (O.held out.new)) }
     ensures failed { OnErr result (AddsPart (O.held out.old) piece.now (O.held out.new)) }

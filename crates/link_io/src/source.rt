@@ -20,12 +20,12 @@ pub trait Source {
     ghost beside: { Self → Beside } = { λ _. nothing };
 
     /// The ghost names of the references that stand in the source. Calls leave them, so that
-    /// whoever lent them knows what became of the values behind them.
+    /// whoever lent them knows what became of the values they refer to.
     ghost references: { Self → List ℕ } = { λ _. [] };
 
     /// Moves the first bytes that remain to the front of a buffer, and returns how many, at most
     /// the buffer's length. `Ok(0)` for a buffer that isn't empty is the end of the input: where
-    /// the bytes are told, it comes exactly where none remain. What stands behind the bytes in the
+    /// the bytes are told, it comes exactly where none remain. What stands after the bytes in the
     /// buffer is open.
     ///
     /// A read that fails takes no byte. It returns [`Failed`] only where the count of faults rose

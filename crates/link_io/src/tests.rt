@@ -161,7 +161,8 @@ fn a_link_of_two_parts_is_both(rt: HostRuntime) -> Result<(), Fail> {
     Ok(())
 }
 
-// A runtime whose standard input is a text, and whose standard output takes so many bytes at once.
+// A runtime whose standard input is a text, and whose standard output takes this many bytes at
+// once.
 #[derive(Clone, Copy)]
 struct Canned {
     most: usize,

@@ -3,7 +3,7 @@
 /// Something that happens to a core.
 #[derive(Clone, Copy, Debug, PartialEq, Eq)]
 pub enum Event {
-    /// A scan begins: an edition of these sources is to be made, in so many pieces.
+    /// A scan begins: an edition of these sources is to be made, in this many pieces.
     Scan {
         /// What the edition is made of.
         sources: u64,

@@ -102,7 +102,7 @@ AllZip-step {A} {B} R xs ys zs i x y below at all one made =
 Some-same : {A : Type 0} (a b : A) → Some a ≡ Some b → a ≡ b
 Some-same a b e = ap (λ o. unwrap_or o a) e
 
--- what stands beside an element, and beside none
+-- what stands next to an element, and next to none
 pub AllZip-at : {A B : Type 0} (R : A → B → Type 0) (xs : List A) (ys : List B) (k : ℕ) (y : B)
     → AllZip R xs ys → slice_get ys k ≡ Some y → (x : A) × (slice_get xs k ≡ Some x) × R x y
 AllZip-at R xs [] k y all at = cc

@@ -96,7 +96,7 @@ in_path packages path name =
     option_map_or (λ home. type_or packages home name (Outside path name))
     (first_place path (map (λ p. p.path) packages)) (Outside path name)
 
--- a name behind a qualifier: in the package of the first import with that local name
+-- a name after a qualifier: in the package of the first import with that local name
 abbrev pub qualified : List NamedPackage → ℕ → ℕ → List ℕ → List ℕ → Target
 qualified packages home file qualifier name =
     option_map_or (λ import. in_path packages import.path name)

@@ -5,7 +5,7 @@ use plain_data::{Seq, Txt};
 /// An import of a file.
 #[derive(Drop)]
 pub struct Import {
-    /// The name that is written for the package: empty where there is none, `.` for a dot import.
+    /// The name that is written for the package: empty where there isn't one, `.` for a dot import.
     pub local: Txt,
     /// The path of the package.
     pub path: Txt,

@@ -16,7 +16,7 @@ use plain_data::{Mem, Txt};
 use std::alloc::Global;
 
 /// What the name of a type leads to in a file, which is named by its place in its package. An empty
-/// qualifier is none. A name alone is that of a type of the package, else of a predeclared type,
+/// qualifier isn't one. A name alone is that of a type of the package, else of a predeclared type,
 /// else it is outside, with the path of the package. A qualified name is one in the package of the
 /// first import with the qualifier as its local name; where the package has no such type, or is not
 /// in the world, it is outside with the import's path; where there is no such import, with the path

@@ -107,7 +107,7 @@ module _ {A B : Type 0} (prefix : List ℕ) (files : List FileFact) (folders : B
   pub rising-made : IsRising (map (λ p. p.path) (map made folders.entries))
   rising-made = subst IsRising (sym (map-map made (λ p. p.path) folders.entries)) (subst IsRising (map-map (λ (e : String A × Vec Lent B). e.0) string_bytes folders.entries) (IsRising-strings (keys folders) ordered))
 
--- the files beside the packages
+-- the files next to the packages
 module _ (prefix : List ℕ) (files : List FileFact) (packages : List Package)
     (at : All (λ p. p ≡ package_of p.path (members_at prefix files p.path)) packages)
     (paths : (path : List ℕ) → list_any (λ p. bytes_eq path p.path) packages ≡ list_any (λ file. bytes_eq path (path_of prefix file)) files) where

@@ -81,7 +81,7 @@ abbrev pub is_own : List FileFact → FileFact → Bool
 is_own files file = has_name (name_of (files_of (members_in files (folder_of file.path)))) file
 
 -- the files make up these packages: one in each folder of a file, rising by the bytes of their
--- paths; the others are the files beside a package of another name
+-- paths; the others are the files next to a package of another name
 pub record IsGrouping (prefix : List ℕ) (files : List FileFact) (grouped : Grouped) : Type 0 where
   pub packages : All (λ p. p ≡ package_in prefix files p.dir) grouped.packages
   pub folders : (folder : List ℕ) → list_any (λ p. bytes_eq folder p.dir) grouped.packages

@@ -33,6 +33,6 @@ pub struct Package {
 pub struct Grouped {
     /// The packages, rising by the bytes of their paths.
     pub packages: Seq<Package>,
-    /// The files that stand beside a package of another name, in their order.
+    /// The files that stand next to a package of another name, in their order.
     pub others: Seq<u32>,
 }

@@ -16,7 +16,7 @@ pub(crate) fn folder_of(path: &str) -> &str
     }
 }
 
-/// The path of the package in the root: the prefix, and `_` where there is none.
+/// The path of the package in the root: the prefix, and `_` where there isn't one.
 fn root_path(prefix: &str) -> &str
     ensures { result.now ≡ root_path prefix.now }
 {

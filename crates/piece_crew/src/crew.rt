@@ -50,7 +50,7 @@ where
     Ok(thread::map_vec(rt, seats, &|seat| work_off(alloc, all, seat))?)
 }
 
-// Does all jobs by so many workers.
+// Does all jobs by `workers` workers.
 fn work_beside<J: Job + Sync, R: Threads + Sync>(
     rt: &R,
     alloc: Global,
@@ -69,7 +69,7 @@ where
     all_done(alloc, results)
 }
 
-/// Does all jobs by so many workers, and gives one output for each job, in the order of the jobs,
+/// Does all jobs by `workers` workers, and gives one output for each job, in the order of the jobs,
 /// whatever the number of workers and the order of their claims.
 ///
 /// Each worker claims one job after another until none is left, so no worker waits for another.

@@ -7,7 +7,7 @@ use Rattle.std.specs.declared.io.ErrorKind.TheVariants.{OutOfMemory}
 use Rattle.plain_data.specs.declared.errors.IoFail.{IoFail}
 use Rattle.plain_data.specs.declared.errors.IoFail.TheVariants as causes
 
--- why a call of the system failed, by its error: for want of memory exactly where the error says so
+-- why a call of the system failed, by its error: for lack of memory exactly where the error says so
 abbrev pub IsFailOf : Error → IoFail → Type 0
 IsFailOf error fail = (fail ≡ causes.NoMemory) ↔ (error_kind error ≡ OutOfMemory)
 
@@ -19,7 +19,7 @@ RoseBy n before now = now ≡ max before (min (before + n) (2 ^ 64 - 1))
 abbrev pub Rose : ℕ → ℕ → Type 0
 Rose before now = RoseBy 1 before now
 
--- the count hasn't fallen; it rose by one where the call failed so, and else it is as it was
+-- the count hasn't fallen; it rose by one where the call failed so, and else it is unchanged
 pub record IsCaused (before now : ℕ) (failed : Type 0) : Type 0 where
   pub later : before ≤ now
   pub rose : failed → Rose before now

@@ -9,7 +9,7 @@ use std::{fmt, io};
 #[derive(Clone, Copy, Debug, PartialEq, Eq)]
 pub struct NoMemory;
 
-/// What a call returns that can fail only for want of memory.
+/// What a call returns that can fail only with `NoMemory`.
 pub type Mem<T> = Result<T, NoMemory>;
 
 /// A call to the outside failed: the count of faults of the object that was called rose, or stands

@@ -1,4 +1,4 @@
--- Cited by private clauses and proofs. The rule under which editions are published beside readers.
+-- Cited by private clauses and proofs. The rule under which editions are published next to readers.
 use Rattle.std.specs.Prelude.{◌≡◌, ℕ, List, [], ◌∷◌, ◌++◌, length, true, false}
 use mathlib.Core.Option.{some}
 use lib.ListN.{get_elem?}

@@ -81,7 +81,8 @@ pub record ShareHistory {E : Type 0} (one other : View E) : Type 0 where
   pub other_told : StartsWith history other.told
 
 -- What a call that sees and is told nothing does to a view: it is of the same opening, has seen no
--- less, was told nothing more, and is closed where it was. What the call notes is said beside this.
+-- less, was told nothing more, and is closed where it was. What the call notes is said next to
+-- this.
 pub record OnlySees {E : Type 0} (old new : View E) : Type 0 where
   pub opening : new.opening ≡ old.opening
   pub later : StartsWith new.seen old.seen

@@ -35,7 +35,7 @@ impl<E> Rule<Option<E>, u64> for Chronicle {
     ghost moves = { λ ask before after answer. Unit {0} };
 }
 
-/// What a step of the log gains beside the entry.
+/// What a step of the log gains next to the entry.
 pub struct Nothing;
 
 impl<E> Gain<E, u64> for Nothing {
@@ -83,7 +83,7 @@ impl<E> Plain<(), Option<E>, u64> for OfClosing {
     ghost state = { λ _. None };
 }
 
-// Makes the place of the entry that comes after so many.
+// Makes the place of the entry that comes after this many.
 pub(crate) fn make_place<E>(counter: &Counter<E>, known: &Token<E>, entries: u64) -> Mem<Pen>
     requires counter { counter.now ≡ counter_of known.now.book }
     ensures book { IfOk result (λ pen. pen.book ≡ known.now.book) }

@@ -225,7 +225,7 @@ impl<E: Drop> Publisher<E> {
     /// # Errors
     ///
     /// `NoMemory` where no place can be made for the edition. That is found before the step that
-    /// adds it, so the history is as it was.
+    /// adds it, so the history is unchanged.
     pub fn publish<R: Wait>(&mut self, rt: &R, next: Arc<E>) -> Mem<u64>
         requires unclosed { self.old.closed ≡ false }
         requires room { length self.old.editions + 1 < 2 ^ 64 }

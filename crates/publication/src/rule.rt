@@ -1,4 +1,4 @@
-//! The rule under which editions are published beside readers, and its steps.
+//! The rule under which editions are published next to readers, and its steps.
 
 use crate::chronicle::Token;
 use crate::slot::Slot;

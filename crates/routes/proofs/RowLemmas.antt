@@ -11,7 +11,7 @@ use Rattle.routes.specs.Targets.{goes_on_after}
 abbrev is_param : ℕ → Bool
 is_param token = token == 256
 
--- ---- a path that goes on
+-- ---- a path that continues
 
 nat_lt-suc : (m n : ℕ) → nat_lt (suc m) (suc n) ≡ nat_lt m n
 nat_lt-suc m n = by (nat_lt m n) refl

@@ -54,7 +54,7 @@ query_of rest = after_first is_question_mark rest
 abbrev pub is_among : List (List ℕ) → List ℕ → Bool
 is_among texts text = list_any (λ one. bytes_eq one text) texts
 
--- the path goes on after this
+-- the path continues after this
 abbrev pub goes_on_after : List ℕ → List ℕ → Bool
 goes_on_after front path = starts_with nat_eq path front && nat_lt (length front) (length path)
 

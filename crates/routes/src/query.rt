@@ -48,7 +48,7 @@ fn page_number(text: &str) -> Option<u32>
     }
 }
 
-/// The page that the value of `p` asks for: the first where there is none.
+/// The page that the value of `p` asks for: the first where there isn't one.
 fn page_asked(text: Option<Txt>) -> Option<u32>
     ensures { result ≡ page_asked text }
 {

@@ -40,7 +40,7 @@ pub struct Router {
     ghost rows: { rename (λ route. route.value) pages ≡ page_rows },
 }
 
-/// Adds a route. It can be read, and stands beside those that are there.
+/// Adds a route. It can be read, and stands next to those that are there.
 fn add(pages: &mut matchit::Router<Page>, route: &str, page: Page) -> Mem<()>
     requires { IsFree (parse_route route.now) pages.old }
     ensures { OnOk result (pages.new ≡ with_route (parse_route route.now) page pages.old) }

@@ -1,4 +1,4 @@
--- How far a session has come, and how each of its steps goes on from there.
+-- How far a session has come, and how each of its steps continues from there.
 use Rattle.std.proofs.Common.{◌⊎◌, ◌≡◌, ◌≢◌, ℕ, ◌+◌, ◌-◌, ◌<◌, ◌≤◌, ◌↔◌, Bool, true, false, cond, ◌||◌, eqb, List, [], ◌∷◌, ◌++◌, length, take, drop, Option, Some, None, Ok, Err, refl, sym, ap, ◌∙◌, subst, arith, append_assoc, append-nil, length-append, inl, inr, ⊎_elim}
 use Rattle.std.specs.Prelude.{IsSome, All, IfSome, IsTrue}
 use Rattle.std.specs.List.{concat}
@@ -224,7 +224,7 @@ module _ {E : Type 0} {reply : Replier E} {left left_now held held_now : Option 
         (newest_reply reply new request last))
         ∙ ap concat (sym replies_with)
 
--- the session goes on after a reply
+-- the session continues after a reply
 pub Progress-more : {E : Type 0} (reply : Replier E) (left middle after held held_now held_after :
     Option (List ℕ)) (old view new : View E) (reading now : Reading) (count : ℕ) (request : Request)
     (last : Bool)
@@ -268,7 +268,7 @@ module _ {E : Type 0} {reply : Replier E} {left left_now held held_now : Option 
   few_given : count < 1000 → length so_far.given < 1000
   few_given room = omega (arith, so_far.counted)
 
-  -- the stream goes on behind the request that was given last
+  -- the stream continues after the request that was given last
   behind : (request : Request) (fed now : List ℕ) (ended : Bool) → HasGiven fed
       (so_far.given ++ request ∷ []) now
       → (requests : List Request) (end : StreamEnd) → Requests fed ended requests end
@@ -459,7 +459,7 @@ ends_there reply left middle held held_now old view rest count so_far room reque
     ∙ ap (λ (w : List ℕ). concat (replies_from reply view.seen 1 given entries) ++ w) (sym due))
     (ends_so ∙ sym (end_of-at_end given end so_far.none_closes few)) no_fault memory)
 
--- want of memory left the replies so far, and no entry more
+-- NoMemory left the replies so far, and no entry more
 starved_there : {E : Type 0} (reply : Replier E) (left middle held held_now : Option (List ℕ))
     (old view : View E) (rest : List ℕ) (count : ℕ)
     → (so_far : Progress reply left middle held held_now old view rest count) → count < 1000
@@ -622,7 +622,7 @@ Session-unrefused reply left middle after held held_now held_after old view read
 Session-unrefused reply left middle after held held_now held_after old view reading now count so_far
     room hears at_end stops.ReadFault none = absurd none
 
--- memory was wanting behind an entry
+-- memory was wanting after an entry
 starved_with_entry : {E : Type 0} (reply : Replier E) (left middle after held held_now : Option
     (List ℕ)) (old view new : View E) (reading now : Reading) (count : ℕ) (request : Request)
     → Progress reply left middle held held_now old view reading.rest count → count < 1000

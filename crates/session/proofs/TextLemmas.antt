@@ -135,7 +135,7 @@ concat-split (suc count) (text ∷ texts) =
 
 -- ---- the requests that are answered
 
--- a close behind others
+-- a close after others
 pub closes_last : (a b c : Bool) → b ≡ true → (a || (b || c)) ≡ true
 closes_last true b c e = refl
 closes_last false true c e = refl

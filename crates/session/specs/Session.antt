@@ -10,7 +10,7 @@ use Rattle.session.specs.declared.session_end.SessionEnd.{SessionEnd}
 use Rattle.session.specs.declared.session_end.SessionEnd.TheVariants as ends
 use Rattle.session.specs.Text.{Replier, answerable, edition_at, session_text, first_replies, end_of}
 
--- the session was ended neither by a failed write nor by want of memory
+-- the session was ended neither by a failed write nor by NoMemory
 abbrev pub IsWhole : SessionEnd → Type 0
 IsWhole end = (end ≢ ends.WriteFault) × (end ≢ ends.NoMemory)
 
@@ -30,7 +30,7 @@ pub record IsAnswered {E : Type 0} (reply : Replier E) (history : List E)
       → StartsWith (session_text reply history requests end entries) written
   pub whole_replies : result ≡ ends.WriteFault
       → StartsWith written (first_replies (length entries - 1) reply history requests entries)
-  -- want of memory leaves whole replies, of which the last one by an entry may be missing
+  -- NoMemory leaves whole replies, of which the last one by an entry may be missing
   pub starved : result ≡ ends.NoMemory
       → (written ≡ first_replies (length entries) reply history requests entries)
       ⊎ (written ≡ first_replies (length entries - 1) reply history requests entries)
@@ -61,7 +61,7 @@ pub record Session {E : Type 0} (reply : Replier E)
 
 -- All that one session did to a link and to a reader: what was read and written and why it ended,
 -- that it ended by a fault only where the count of these rose by one, or stands at its end, and
--- otherwise only where this count is as it was, and what stays of the reader.
+-- otherwise only where this count is unchanged, and what stays of the reader.
 pub record ServesLink {E : Type 0} (reply : Replier E)
     (remaining remaining_after held held_after : Option (List ℕ))
     (reads reads_after writes writes_after : ℕ) (old new : View E)

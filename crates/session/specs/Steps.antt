@@ -27,7 +27,7 @@ Writes reply held held_after (Err stops.NoMemory) = held_after ≡ held
 Writes reply held held_after (Err stops.ReadFault) = ⊥
 
 -- What a call that only writes did to a link, but for the bytes that it wrote: where it failed so,
--- the count of failed writes rose by one, or stands at its end, and else this count is as it was.
+-- the count of failed writes rose by one, or stands at its end, and else this count is unchanged.
 -- It left the bytes that remain, the count of failed reads and the references as they were.
 pub record OnlyWrites {Link : Type 0} (bytes : Link → Option (List ℕ)) (reads writes : Link → ℕ)
     (references : Link → List ℕ) (old new : Link) (failed : Type 0) : Type 0 where
@@ -37,7 +37,7 @@ pub record OnlyWrites {Link : Type 0} (bytes : Link → Option (List ℕ)) (read
   pub same_references : references new ≡ references old
 
 -- What a call that only reads did to a link, but for the bytes that it read: where it failed so,
--- the count of failed reads rose by one, or stands at its end, and else this count is as it was.
+-- the count of failed reads rose by one, or stands at its end, and else this count is unchanged.
 -- It left the bytes that are held, the count of failed writes and the references as they were.
 pub record OnlyReads {Link : Type 0} (bytes : Link → Option (List ℕ)) (reads writes : Link → ℕ)
     (references : Link → List ℕ) (old new : Link) (failed : Type 0) : Type 0 where

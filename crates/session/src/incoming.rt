@@ -39,7 +39,7 @@ fn read_piece<L: Link>(link: &mut L, heads: &mut Heads) -> Result<(), Failed>
         heads.end();
     } else {
         // All of it is taken: fewer than `MAX_HEAD_BYTES` are held, and `MAX_REST_BYTES` leave room
-        // for a whole piece behind these.
+        // for a whole piece after these.
         let _ = heads.feed(&piece[..count]);
     }
     Ok(())

@@ -29,7 +29,7 @@ abbrev pub behind_colon : List ℕ → List ℕ
 behind_colon [] = []
 behind_colon (b ∷ text) = if b == 58 then text else b ∷ text
 
--- the note behind a name that isn't empty, and ")"
+-- the note after a name that isn't empty, and ")"
 abbrev pub note_closed : List ℕ → Option (List ℕ)
 note_closed [] = None
 note_closed (b ∷ text) = if b == 41 then Some (trimmed (behind_colon text)) else None

@@ -24,7 +24,7 @@ sentence_with sentence cs =
     string_bytes sentence.text
     ++ encode_utf8_all (sentence_behind sentence.earlier sentence.before (squeezed cs))
 
--- a character was taken, before these characters: the sentence goes on, or it is whole
+-- a character was taken, before these characters: the sentence continues, or it is whole
 abbrev pub IsTaken : Sentence → ℕ → List ℕ → Bool → Sentence → Type 0
 IsTaken old c after goes_on new =
     MatchBool goes_on (sentence_with new after ≡ sentence_with old (c ∷ after))

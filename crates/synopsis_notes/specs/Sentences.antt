@@ -4,13 +4,13 @@ use Rattle.std.specs.Prelude.{◌≡◌, ℕ, ◌+◌, ◌≤◌, ◌⊎◌, Boo
 use Rattle.std.specs.Prelude.{IsTrue, length}
 use Rattle.synopsis_notes.specs.Synopses.{ends_sentence}
 
--- the last two characters of a text that stands behind two others
+-- the last two characters of a text that stands after two others
 abbrev pub last_two : Option ℕ → Option ℕ → List ℕ → Option ℕ × Option ℕ
 last_two earlier before [] = (earlier, before)
 last_two earlier before (c ∷ cs) = last_two before (Some c) cs
 
 -- a sentence ends with a character that stands between these texts, of which the first stands
--- behind two others
+-- after two others
 abbrev pub ends_between : Option ℕ → Option ℕ → List ℕ → ℕ → List ℕ → Bool
 ends_between earlier before front c after =
     ends_sentence (last_two earlier before front).0 (last_two earlier before front).1 c after
@@ -22,7 +22,7 @@ IsEnded earlier before sentence after =
     × IsTrue (ends_between earlier before front c after)
 
 -- a text begins with this sentence: it is ended or the whole text, and no character before its last
--- ends a sentence; the text stands behind two characters
+-- ends a sentence; the text stands after two characters
 pub record IsSentenceBehind (earlier before : Option ℕ) (text sentence : List ℕ) : Type 0 where
   pub after : List ℕ
   pub whole : text ≡ sentence ++ after

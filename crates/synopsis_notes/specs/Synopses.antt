@@ -42,18 +42,18 @@ is_capital (Some c) = is_upper c
 abbrev pub is_initial : Option ℕ → Option ℕ → Bool
 is_initial before letter = is_capital letter && not (is_capital before)
 
--- the text ends, or goes on with a space
+-- the text ends, or continues with a space
 abbrev pub is_space_or_end : List ℕ → Bool
 is_space_or_end [] = true
 is_space_or_end (c ∷ cs) = c == space
 
--- a sentence ends with a character, by the two characters before it and the text behind it
+-- a sentence ends with a character, by the two characters before it and the text after it
 abbrev pub ends_sentence : Option ℕ → Option ℕ → ℕ → List ℕ → Bool
 ends_sentence earlier before c after =
     is_wide_stop c
     || (c == full_stop && is_space_or_end after && not (is_initial earlier before))
 
--- what of the first sentence stands behind two characters
+-- what of the first sentence stands after two characters
 abbrev pub sentence_behind : Option ℕ → Option ℕ → List ℕ → List ℕ
 sentence_behind earlier before [] = []
 sentence_behind earlier before (c ∷ cs) =

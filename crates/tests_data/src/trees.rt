@@ -52,7 +52,7 @@ fn paths_that_belong(rt: HostRuntime) -> Result<(), Fail> {
     Ok(())
 }
 
-/// A path of so many bytes.
+/// A path of this many bytes.
 fn long_path(alloc: Global, length: usize) -> Result<String, Fail> {
     let mut path = String::new(alloc);
     for _ in 3..length {
@@ -83,7 +83,7 @@ fn scan<T: Tree>(alloc: Global, tree: &mut T) -> Result<Seq<(Txt, Entry)>, IoFai
     Ok(sources)
 }
 
-/// One line of a scan: each path, and behind it its bytes, `+` where they are too many, or `-`
+/// One line of a scan: each path, and after it its bytes, `+` where they are too many, or `-`
 /// where they weren't read.
 fn shown<T: Tree>(alloc: Global, tree: &mut T) -> Result<String, Fail> {
     let mut text = String::new(alloc);

@@ -215,7 +215,7 @@ fn tree_of_version(
     Ok(MemTree::new(alloc, versions, Vec::from_slice(alloc, &[failing])?)?)
 }
 
-/// A tree with so many empty files, whose third call fails.
+/// A tree with this many empty files, whose third call fails.
 fn tree_of_many(alloc: Global, count: u32) -> Result<MemTree, Fail> {
     let mut version = Seq::new(alloc);
     for number in 0..count {

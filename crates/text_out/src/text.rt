@@ -35,7 +35,7 @@ impl Text {
         }
     }
 
-    /// Appends a text. After `NoMemory` the text is as it was.
+    /// Appends a text. After `NoMemory` the text is unchanged.
     pub fn push(&mut self, text: &str) -> Mem<()>
         ensures ok { OnOk result (self.new ≡ self.old ++ text.now) }
         ensures err { OnErr result (self.new ≡ self.old) }
@@ -45,7 +45,7 @@ impl Text {
     }
 
     /// Appends a text for use in HTML: `&`, `<`, `>`, `"` and `'` are written as `&amp;`, `&lt;`,
-    /// `&gt;`, `&quot;` and `&#39;`. After `NoMemory` the text is as it was.
+    /// `&gt;`, `&quot;` and `&#39;`. After `NoMemory` the text is unchanged.
     pub fn push_escaped(&mut self, text: &str) -> Mem<()>
         ensures ok { OnOk result (self.new ≡ self.old ++ escaped text.now) }
         ensures err { OnErr result (self.new ≡ self.old) }

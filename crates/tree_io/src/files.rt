@@ -42,7 +42,7 @@ fn put_file(files: &mut Version, path: Txt, bytes: Bytes) -> Mem<()>
     Ok(())
 }
 
-/// The files of the last of so many scans, where there is a scan and a version.
+/// The files of the last of `opened` scans, where there is a scan and a version.
 fn under_way(versions: &[Version], opened: usize) -> Option<&Version>
     ensures { MatchOption result (files_under_way versions.now opened ≡ [])
         (λ files. files_of files.now ≡ files_under_way versions.now opened) }
@@ -52,7 +52,7 @@ fn under_way(versions: &[Version], opened: usize) -> Option<&Version>
     versions.get(place.min(last))
 }
 
-/// The paths of the last of so many scans, rising by their bytes.
+/// The paths of the last of `opened` scans, rising by their bytes.
 pub(crate) fn list_under_way(alloc: Global, versions: &[Version], opened: usize) -> Mem<Seq<Txt>>
     ensures { IfOk result (λ paths. paths ≡ paths_of (files_under_way versions.now opened)) }
 {
@@ -73,7 +73,7 @@ fn paths(alloc: Global, files: &Version) -> Mem<Seq<Txt>>
     Ok(paths)
 }
 
-/// What a read at a path of the last of so many scans gives.
+/// What a read at a path of the last of `opened` scans gives.
 pub(crate) fn read_under_way(
     alloc: Global,
     versions: &[Version],
@@ -90,7 +90,7 @@ pub(crate) fn read_under_way(
     entry(alloc, bytes)
 }
 
-/// The bytes at a path of the last of so many scans.
+/// The bytes at a path of the last of `opened` scans.
 fn find_under_way<'a>(versions: &'a [Version], opened: usize, path: &str) -> Option<&'a Bytes>
     ensures { option_copied result ≡ bytes_at (files_under_way versions.now opened) path.now }
 {

@@ -129,7 +129,7 @@ fn visit<R: Files + Drop>(
     visit_named(alloc, folder, entry.file_name(), entry.file_type(), walk)
 }
 
-/// Meets an entry of a folder by its name and its kind, which may be an error. It is passed over
+/// Meets an entry of a folder by its name and its kind, which may be an error. It is skipped
 /// where no path that belongs can stand under its name, whatever it is. One entry more than
 /// [`MAX_ENTRIES`] is a fault.
 pub fn visit_named(
@@ -163,7 +163,7 @@ pub fn visit_named(
     Ok(())
 }
 
-/// Whether paths that belong may stand under a name. Other entries are passed over, whatever they
+/// Whether paths that belong may stand under a name. Other entries are skipped, whatever they
 /// are.
 pub fn may_lead(name: &str) -> bool
     ensures { IsTrue result ↔ MayLead name.now }
@@ -171,7 +171,7 @@ pub fn may_lead(name: &str) -> bool
     is_source_folder(name) && has_path_bytes(name)
 }
 
-/// Whether an entry is a folder, by what the system says of it. A link is none.
+/// Whether an entry is a folder, by what the system says of it. A link isn't one.
 pub fn is_folder(kind: io::Result<FileType>) -> Result<bool, IoFail>
     ensures { MatchResult kind (λ kind. IsOkAnd result (λ it. IsTrue it ↔ IsDir kind))
         (λ error. IsErrAnd result (IsFailOf error)) }

@@ -53,7 +53,7 @@ grows mark depth first front (w ∷ ws) =
       rw h (ih.2 ∙ ap (λ us. (first ∷ us) ∷ ih.1) (append_assoc front (w ∷ []) ih.0)),
     )
 
--- a word that isn't the separator goes on with the piece
+-- a word that isn't the separator continues with the piece
 passes : (mark : Mark) (depth : ℕ) (front : List Word) (w : Word) (ws : List Word) → w.mark ≢ mark
     → pieces_from mark depth front (w ∷ ws)
     ≡ pieces_from mark (depth_after depth w.mark) (front ++ w ∷ []) ws

@@ -1,5 +1,5 @@
 -- Cited by public clauses. The type that words spell, by one test after another: the plain program
--- beside the grammar. The public clauses named `read` cite it, so that a crate above can read
+-- next to the grammar. The public clauses named `read` cite it, so that a crate above can read
 -- declarations by plain programs of its own.
 use Rattle.std.specs.Prelude.{ℕ, zero, suc, Bool, true, false, List, [], ◌∷◌, ◌++◌, Option}
 use Rattle.std.specs.Prelude.{Some, None, is_some, not, ◌&&◌, if◌then◌else◌}
@@ -64,7 +64,7 @@ unfoldable pub may_be_length : List Word → Bool
 may_be_length [] = true
 may_be_length (w ∷ ws) = is_run (w ∷ ws)
 
--- a bracket and its closing one, with nothing behind
+-- a bracket and its closing one, with nothing after
 unfoldable pub is_all_bracketed : Word → List Word → Bool
 is_all_bracketed w ws = same_mark w.mark m.OpenBracket && is_some (alone m.CloseBracket ws)
 

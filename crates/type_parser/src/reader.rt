@@ -12,7 +12,8 @@ use std::alloc::Global;
 /// What is read, or nothing, or no memory.
 pub type Read<T> = Mem<Option<T>>;
 
-/// Reads a type, whose parts have at most so many levels and are read by a function that is passed.
+/// Reads a type, whose parts have at most this many levels and are read by a function that is
+/// passed.
 #[derive(Clone, Copy)]
 pub struct Reader<F> {
     /// Where memory comes from.
@@ -301,7 +302,7 @@ impl<F: Fn(Global, usize, &Words<'_>) -> Read<TypeExpr>> Reader<F> {
     }
 }
 
-/// The type of at most so many levels that the words spell.
+/// The type of at most this many levels that the words spell.
 pub fn type_of(alloc: Global, levels: usize, words: &Words<'_>) -> Read<TypeExpr>
     ensures { IfOk result (λ o. o ≡ spec.type_of levels words.now) }
 {

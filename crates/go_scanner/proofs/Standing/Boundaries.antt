@@ -110,7 +110,7 @@ number_ascii spelling after h number =
 ascii_rest : (xs ys : List ℕ) → list_all is_ascii xs ≡ true → IsUtf8 (xs ++ ys) → IsUtf8 ys
 ascii_rest xs ys h whole = rest_utf8 xs ys (ascii_utf8 xs h) whole
 
--- behind a closing mark
+-- after a closing mark
 closed : (mark : ℕ) (inner after : List ℕ) → mark < 128
     → IsUtf8 ((mark ∷ inner ++ mark ∷ []) ++ after) → IsUtf8 after
 closed mark inner after low whole =

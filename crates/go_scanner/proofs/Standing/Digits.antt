@@ -335,7 +335,7 @@ may_complete base none (d ∷ ds) h =
     or_right (length (print_digits (d ∷ ds)) == 0)
     (spells_digits base false (print_digits (d ∷ ds))) (digits_complete base none false (d ∷ ds) h)
 
--- what stands behind a front and one element
+-- what stands after a front and one element
 pub drop_past : (x : ℕ) (front tail : List ℕ) → drop (length front + 1) (front ++ x ∷ tail) ≡ tail
 drop_past x front tail =
     ap (drop (length front + 1)) (sym (append_assoc front (x ∷ []) tail))

@@ -116,7 +116,7 @@ module _ (p : ℕ → Bool) where
       → p (get_or xs (position_or_len p xs) 0) ≡ true
   place_passes xs within = not-false _ (prefix_len_stops (λ y. not (p y)) xs 0 within)
 
-  -- the front that passes goes on past a front that does
+  -- the front that passes continues past a front that does
   pub take_while-past : (front rest : List ℕ) → list_all p front ≡ true
       → take_while p (front ++ rest) ≡ front ++ take_while p rest
   take_while-past [] rest h = refl

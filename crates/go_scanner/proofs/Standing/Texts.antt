@@ -25,7 +25,7 @@ use Rattle.go_scanner.proofs.Standing.Fronts.{SpelledAt, SpelledAs, extent_of-lo
 use Rattle.go_scanner.proofs.Standing.Quoted.{text_complete, text_sound, rune_complete, rune_sound}
 use Rattle.go_scanner.proofs.Standing.Quoted.{element_some}
 
--- what stands between two marks, and behind them
+-- what stands between two marks, and after them
 between : (mark : ℕ) (rest inner after : List ℕ)
     → mark ∷ rest ≡ (mark ∷ inner ++ mark ∷ []) ++ after → rest ≡ inner ++ mark ∷ after
 between mark rest inner after split =

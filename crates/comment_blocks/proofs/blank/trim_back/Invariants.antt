@@ -2,7 +2,7 @@ use Rattle.std.proofs.Common.{◌≡◌, ℕ, ◌<◌, ◌≤◌, length, get_or
 use Rattle.comment_blocks.specs.Texts.{is_blank}
 use Rattle.comment_blocks.proofs.blank.trim_back.Given as goal
 
--- what stands behind the place goes
+-- what stands after the place goes
 abbrev pub invariant-loop-end : goal.invariant-loop-end
 invariant-loop-end l = record {
   within : l.end ≤ length l.text;

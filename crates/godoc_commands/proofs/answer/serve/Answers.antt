@@ -1,4 +1,4 @@
--- Where nothing is begun for want of memory, nothing is read or written.
+-- Where nothing is begun for lack of memory, nothing is read or written.
 use Rattle.godoc_commands.proofs.Sessions.{Serves-unbegun}
 use Rattle.godoc_commands.proofs.answer.serve.Goals as goal
 

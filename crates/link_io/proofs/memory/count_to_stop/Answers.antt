@@ -1,4 +1,4 @@
--- Where a read stops is behind the position, and not behind the end.
+-- Where a read stops is after the position, and not after the end.
 use Rattle.std.proofs.Common.{arith, ◌-◌}
 use Rattle.link_io.specs.Memory.{cuts_behind}
 use Rattle.link_io.proofs.Stops.{least-le, least-positive}

@@ -1,4 +1,4 @@
--- A write goes on where the one before it ended.
+-- A write continues where the one before it ended.
 use Rattle.std.proofs.Common.{rules}
 use Rattle.std.proofs.lemmas.List.{take_rest}
 use Rattle.link_io.proofs.Laws.{Adds-more}

@@ -2,7 +2,7 @@ use Rattle.std.proofs.Common.{◌≡◌, ℕ, ◌<◌, ◌≤◌, length, get_or
 use Rattle.synopsis_notes.specs.Synopses.{is_white}
 use Rattle.synopsis_notes.proofs.note.trim_back.Given as goal
 
--- what stands behind the place goes
+-- what stands after the place goes
 abbrev pub invariant-loop-end : goal.invariant-loop-end
 invariant-loop-end l = record {
   within : l.end ≤ length l.text;

@@ -1,4 +1,4 @@
--- A read leaves the bytes and the cuts behind those that it moved.
+-- A read leaves the bytes and the cuts after those that it moved.
 use Rattle.std.proofs.Common.{rules}
 use Rattle.std.proofs.lemmas.List.{length-drop}
 use Rattle.link_io.proofs.Stops.{cuts_behind-more, drop-more}
