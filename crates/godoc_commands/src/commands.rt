@@ -74,7 +74,7 @@ pub fn run<R: Wait, T: Tree, I: Source, O: Sink>(
         → result ≡ Status.Limit files bytes → IsTooLarge (T.scans tree.new)
         (T.read_faults tree.old) (T.read_faults tree.new) files bytes }
 
-    // Want of memory may come before the scan.
+    // `NoMemory` may come before the scan.
     ensures at_most_one_scan { OpensAtMostOne (T.scans tree.old) (T.scans tree.new) }
     ensures one_scan { AskForScan (command_of (map string_bytes words.now))
         → result ≢ Status.TreeFault → result ≢ Status.NoMemory

@@ -33,7 +33,7 @@ pub(crate) fn all_done<O: Drop>(alloc: Global, results: Vec<Mem<Bundle<O>>>) -> 
     Ok(bundles)
 }
 
-// So many empty places.
+// This many empty places.
 pub(crate) fn empty_places<O: Drop>(alloc: Global, count: u32) -> Mem<Vec<Option<O>>>
     ensures { IfOk result (λ places. places.items ≡ replicate count None) }
 {

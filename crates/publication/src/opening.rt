@@ -108,7 +108,7 @@ fn add_reader<E: Drop>(
     Ok(EditionReader::new(reader, nothing.again(), known_at_opening(origin)))
 }
 
-// So many readers more.
+// This many readers more.
 fn add_readers<E: Drop>(
     alloc: Global,
     writer: &mut SlotWriter<E>,

@@ -177,7 +177,7 @@ fn packages_and_files_are_found_by_their_paths(rt: HostRuntime) -> Result<(), Fa
     Ok(())
 }
 
-/// So many files that could not be read.
+/// This many files that could not be read.
 fn unread_files(alloc: Global, count: u32) -> Mem<Vec<(Txt, Entry)>> {
     let mut entries = Vec::new(alloc);
     for number in 0..count {
