@@ -8,7 +8,7 @@ use std::alloc::Global;
 use std::fs::Files;
 use std::marker::Model;
 
-/// A tree in a real folder. It exposes nothing of its contents, which may change at any time. It goes
+/// A tree in a real folder. It exposes none of its contents, which may change at any time. It goes
 /// to the files by the runtime that it keeps.
 ///
 /// Folders are walked whose names don't begin with `.` or `_`, aren't `vendor` or `testdata`, and
