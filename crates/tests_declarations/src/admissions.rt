@@ -1,4 +1,4 @@
-//! What is said of files by their names and build lines.
+//! Which files are read, by their names and build lines.
 
 use build_lines::Admission::{Admitted, BadBuildLine, Ignored};
 use build_lines::Why::{ByLine, ByName};
@@ -47,7 +47,7 @@ fn assert_admission(
 }
 
 #[test]
-fn names_tell_of_systems_and_architectures(rt: HostRuntime) -> Result<(), Fail> {
+fn names_exclude_systems_and_architectures(rt: HostRuntime) -> Result<(), Fail> {
     let linux = config(rt.alloc(), "linux", "amd64", "zos")?;
     for (path, wanted) in [
         ("x_linux_arm64.go", Ignored(ByName)),

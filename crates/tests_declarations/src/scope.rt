@@ -115,7 +115,7 @@ const NAMES: [(&str, &str, &str, &str); 20] = [
     ("the name of a package at hand", "b", "B", "1.1"),
     ("a qualified name needs no capital", "b", "t", "1.0"),
     (
-        "a predeclared name behind a qualifier",
+        "a predeclared name after a qualifier",
         "b",
         "int",
         "example.com/b/v2 int",
@@ -128,9 +128,9 @@ const NAMES: [(&str, &str, &str, &str); 20] = [
         "example.com/c/v12 N",
     ),
     ("a version alone", "v2", "N", "v2 N"),
-    ("v alone is no version", "v", "N", "example.com/d/v N"),
+    ("v alone is not a version", "v", "N", "example.com/d/v N"),
     (
-        "digits and a letter are no version",
+        "digits and a letter are not a version",
         "v1x",
         "N",
         "example.com/e.v/v1x N",
@@ -138,7 +138,7 @@ const NAMES: [(&str, &str, &str, &str); 20] = [
     ("the first import of a name decides", "x", "B", "1.1"),
     ("an import by the blank identifier", "_", "N", "other N"),
     ("a dot import has no local name", ".", "N", "?. N"),
-    ("a dot import's path is none", "dot", "N", "?dot N"),
+    ("a dot import has no qualifier", "dot", "N", "?dot N"),
     ("no such import", "q", "N", "?q N"),
 ];
 
