@@ -57,31 +57,19 @@ module _ (items : List Matched) (d : Matched) (n k : ℕ) (matched : AreMatched 
     (some : 1 ≤ length items)
     (opened : opens (get_or items 0 d).word.mark ≡ true) (is : n ≡ min (get_or items 0 d).inside k)
     (count : k ≡ length items - 1) where
-  pub stride-closed : n < k → n + 2 ≡ stride (plain items)
-  stride-closed less = go items d n k matched some opened is count less
+  pub stride-opened : min (n + 1) k + 1 ≡ stride (plain items)
+  stride-opened = go items d n k matched some opened is count
     where
       go : (us : List Matched) (e : Matched) (i j : ℕ) → AreMatched us → 1 ≤ length us
           → opens (get_or us 0 e).word.mark ≡ true
-          → i ≡ min (get_or us 0 e).inside j → j ≡ length us - 1 → i < j → i + 2 ≡ stride (plain us)
-      go [] e i j h one o eq c lt = absurd (omega (arith, one))
-      go (w ∷ ws) e i j h one o eq c lt =
+          → i ≡ min (get_or us 0 e).inside j → j ≡ length us - 1
+          → min (i + 1) j + 1 ≡ stride (plain us)
+      go [] e i j h one o eq c = absurd (omega (arith, one))
+      go (w ∷ ws) e i j h one o eq c =
           let at = inside-first (w ∷ ws) e i j h one eq c in
           let len = plain-length ws in
           let all = c ∙ one-less (length ws) in
-          rw o (omega (arith, at, len, all, lt))
-
-  pub stride-open : k ≤ n → n + 1 ≡ stride (plain items)
-  stride-open more = go items d n k matched some opened is count more
-    where
-      go : (us : List Matched) (e : Matched) (i j : ℕ) → AreMatched us → 1 ≤ length us
-          → opens (get_or us 0 e).word.mark ≡ true
-          → i ≡ min (get_or us 0 e).inside j → j ≡ length us - 1 → j ≤ i → i + 1 ≡ stride (plain us)
-      go [] e i j h one o eq c le = absurd (omega (arith, one))
-      go (w ∷ ws) e i j h one o eq c le =
-          let at = inside-first (w ∷ ws) e i j h one eq c in
-          let len = plain-length ws in
-          let all = c ∙ one-less (length ws) in
-          rw o (omega (arith, at, len, all, le, eq))
+          rw o (omega (arith, at, len, all))
 
 module _ (close : Mark) (ws front : List Word) (inner : front ≡ take (inside 0 ws) ws) where
   pub enclosed-parts : (back : List Matched) (d : Matched) → plain back ≡ drop (inside 0 ws) ws

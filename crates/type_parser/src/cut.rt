@@ -17,11 +17,7 @@ fn stride(items: &[Matched]) -> usize
         [] => 0,
         [first, rest @ ..] if first.word.mark.opens() => {
             let inside = first.inside.min(rest.len());
-            if inside < rest.len() {
-                inside + 2
-            } else {
-                inside + 1
-            }
+            (inside + 1).min(rest.len()) + 1
         }
         _ => 1,
     }
