@@ -10,6 +10,3 @@ mod target;
 
 pub use router::Router;
 pub use target::Target;
-
-#[cfg(test)]
-mod tests;
