@@ -28,6 +28,3 @@ pub use laws::{
 };
 pub use reply::{Code, bad_reply, reply_head};
 pub use request::{MAX_FIELDS, MAX_HEAD_BYTES, Request, Verb};
-
-#[cfg(test)]
-mod tests;

@@ -22,6 +22,3 @@ pub use memory::{MemLink, MemSink, MemSource};
 pub use sink::{Sink, write_whole};
 pub use source::Source;
 pub use standard::{StdSink, StdSource};
-
-#[cfg(test)]
-mod tests;

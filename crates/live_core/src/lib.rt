@@ -21,6 +21,3 @@ mod machine;
 pub use event::{Answer, Event, NotLegal};
 pub use laws::{connections_never_go_back, trails_are_legal};
 pub use machine::{Core, run_events};
-
-#[cfg(test)]
-mod tests;

@@ -1,5 +1,4 @@
 mod Closing
 mod Counting
 mod Ordering
-mod Pairs
 mod Steps

@@ -16,8 +16,6 @@ mod job;
 mod laws;
 mod order;
 mod rule;
-#[cfg(test)]
-mod tests;
 
 pub use claims::{ClaimSeat, Claims};
 pub use crew::run_pieces;

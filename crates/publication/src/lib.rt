@@ -24,6 +24,3 @@ mod slot;
 pub use opening::{MAX_READERS, open_editions};
 pub use publisher::Publisher;
 pub use reader::{EditionReader, Entered, Told};
-
-#[cfg(test)]
-mod tests;

@@ -19,6 +19,3 @@ mod target;
 
 pub use router::Router;
 pub use target::Target;
-
-#[cfg(test)]
-mod tests;

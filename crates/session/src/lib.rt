@@ -23,6 +23,3 @@ pub use laws::{each_stream_has_requests, the_first_thousand_up_to_a_close_are_an
 pub use responder::Responder;
 pub use serve::serve_link;
 pub use session_end::SessionEnd;
-
-#[cfg(test)]
-mod tests;

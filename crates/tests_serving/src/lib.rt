@@ -1,0 +1,20 @@
+//! Tests of links, request heads, routes, sessions, editions, events and workers, through the
+//! public calls of their libraries.
+#![tactic(auto)]
+
+#[cfg(test)]
+mod editions;
+#[cfg(test)]
+mod events;
+#[cfg(test)]
+mod heads;
+#[cfg(test)]
+mod links;
+#[cfg(test)]
+mod sessions;
+#[cfg(test)]
+mod targets;
+#[cfg(test)]
+mod turns;
+#[cfg(test)]
+mod workers;
