@@ -14,9 +14,6 @@
 mod config;
 mod declaration;
 mod fault;
-mod file_copy;
-#[cfg(test)]
-mod tests;
 mod token;
 mod tree;
 mod tree_copy;
@@ -27,9 +24,8 @@ pub use declaration::{
     Decl, File, FuncDecl, Group, ImportName, ImportSpec, Receiver, TypeParam, TypeSpec, ValueSpec,
 };
 pub use fault::{Fault, Refused, copy_fault};
-pub use file_copy::{copy_decl, copy_file};
 pub use plain_data::{Bytes, Failed, IoFail, Mem, NoMemory, Seq, Txt};
 pub use token::{Comment, MAX_SOURCE_BYTES, Scanned, Span, Token, TokenKind, TokenRange};
 pub use tree::{ChanDir, Element, Field, MAX_TYPE_LEVELS, Param, Signature, Term, TypeExpr};
-pub use tree_copy::{copy_signature, copy_spans, copy_terms, copy_type};
+pub use tree_copy::{copy_terms, copy_type};
 pub use word::{Mark, Word};

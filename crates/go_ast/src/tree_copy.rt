@@ -9,7 +9,7 @@ use sqlite_items::Boxed;
 use std::alloc::Global;
 
 /// The same places in memory of their own.
-pub fn copy_spans(alloc: Global, spans: &Seq<Span>) -> Mem<Seq<Span>>
+fn copy_spans(alloc: Global, spans: &Seq<Span>) -> Mem<Seq<Span>>
     ensures { IfOk result (λ copy. copy ≡ spans.now) }
 {
     Ok(Seq::from_vec(Vec::from_slice(alloc, spans.as_slice())?))
@@ -88,7 +88,7 @@ fn copy_params(alloc: Global, params: &Seq<Param>) -> Mem<Seq<Param>>
 
 /// The same signature in memory of its own.
 #[cycle(copying)]
-pub fn copy_signature(alloc: Global, sig: &Signature) -> Mem<Signature>
+fn copy_signature(alloc: Global, sig: &Signature) -> Mem<Signature>
     ensures { IfOk result (λ copy. copy ≡ sig.now) }
 {
     Ok(Signature {

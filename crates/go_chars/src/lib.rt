@@ -11,8 +11,6 @@
 
 mod category;
 mod name;
-#[cfg(test)]
-mod tests;
 
 pub use category::{is_digit, is_letter};
 pub use name::{is_exported, is_keyword, is_name};

@@ -12,15 +12,11 @@
 
 mod body;
 mod chunk;
-#[cfg(test)]
-mod chunk_tests;
 mod chunks;
 mod clause;
 mod cutter;
 mod declaration;
 mod declarations;
-#[cfg(test)]
-mod file_tests;
 mod function;
 mod group;
 mod import;
@@ -29,8 +25,6 @@ mod nesting;
 mod parse;
 mod read;
 mod receiver;
-#[cfg(test)]
-mod tests;
 mod type_spec;
 mod value;
 

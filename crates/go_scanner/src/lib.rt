@@ -22,8 +22,6 @@ mod position;
 mod run;
 mod scanner;
 mod shape;
-#[cfg(test)]
-mod tests;
 mod text;
 mod word;
 

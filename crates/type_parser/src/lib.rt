@@ -21,8 +21,6 @@ mod parse;
 mod reader;
 mod run;
 mod signature;
-#[cfg(test)]
-mod tests;
 mod type_params;
 mod words;
 
