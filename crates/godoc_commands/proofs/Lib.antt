@@ -1,4 +1,5 @@
 mod Addresses
+mod FaultPages
 mod FaultTexts
 mod FoundLines
 mod Joins

@@ -1,11 +1,12 @@
 -- Cited by public clauses. The pages, byte for byte. Their wording is the project's own; how a byte
 -- is escaped in an address is RFC 3986, section 2.1.
-use Rattle.std.specs.Prelude.{ℕ, Bool, false, ◌||◌, ◌==◌, List, [], ◌∷◌, ◌++◌, codes, decimal, if◌then◌else◌, map, slice_get, unwrap_or}
+use Rattle.std.specs.Prelude.{◌≡◌, ⊤, ℕ, Bool, true, false, ◌||◌, ◌==◌, List, [], ◌∷◌, ◌++◌, codes, decimal, if◌then◌else◌, map, slice_get, unwrap_or}
 use Rattle.std.specs.Char.{is_ascii_alphanumeric}
 use Rattle.std.specs.List.{flat_map}
 use Rattle.std.specs.Str.{is_utf8}
 use Rattle.corpus.specs.declared.faults.FileFault.{FileFault}
 use Rattle.go_ast.specs.declared.fault.Fault.{Fault}
+use Rattle.go_ast.specs.declared.fault.Fault.TheVariants as kinds
 use Rattle.percent_encoding.specs.Percent.{percent_encode_byte}
 use Rattle.text_out.specs.Escape.{escaped}
 use Rattle.tree_io.specs.declared.tree.Entry.{Entry}
@@ -66,6 +67,14 @@ list_page paths faults = page_with (codes "Packages")
 abbrev pub has_page : Entry → Bool
 has_page (Bytes bytes) = is_utf8 bytes
 has_page entry = false
+
+-- what a fault says of the page of its file: a file that isn't UTF-8 has none, one that is too large
+-- or unread may have one, and after any other fault it has one
+abbrev pub SaysPage : Fault → Entry → Type 0
+SaysPage (kinds.NotUtf8 offset) entry = has_page entry ≡ false
+SaysPage kinds.FileTooLarge entry = ⊤
+SaysPage kinds.Unread entry = ⊤
+SaysPage _ entry = has_page entry ≡ true
 
 -- the path of a file, with the address of its page where it has one
 unfoldable pub file_link : List ℕ → Bool → List ℕ

@@ -14,28 +14,31 @@ use Rattle.routes.specs.declared.target.Target.TheVariants as targets
 use Rattle.routes.specs.Targets.{target_of}
 use Rattle.godoc_commands.specs.Pages.{faults_page, list_page, message_page}
 
--- the status of the reply to a target (RFC 9110, section 15); one that has no page yet isn't found
-abbrev pub code_of : Target → Code
-code_of targets.List = codes_of.Ok
-code_of targets.Faults = codes_of.Ok
-code_of targets.BadTarget = codes_of.BadRequest
-code_of targets.BadVerb = codes_of.NotAllowed
-code_of targets.NotFound = codes_of.NotFound
-code_of (targets.PackagePage path) = codes_of.NotFound
-code_of (targets.SourcePage path) = codes_of.NotFound
-code_of (targets.Search name page) = codes_of.NotFound
+-- what answers a target: the status of the reply (RFC 9110, section 15), and the bytes of the page
+pub record Answer : Type 0 where
+  pub code : Code
+  pub page : List ℕ
 
--- the page of a target, of an edition
-abbrev pub page_of : Edition → Target → List ℕ
-page_of edition targets.List =
-    list_page (map (λ p. p.path) edition.tables.packages) (length edition.tables.faults)
-page_of edition targets.Faults = faults_page edition.sources.entries edition.tables.faults
-page_of edition targets.BadTarget = message_page (codes "Bad request")
-page_of edition targets.BadVerb = message_page (codes "Method not allowed")
-page_of edition targets.NotFound = message_page (codes "Not found")
-page_of edition (targets.PackagePage path) = message_page (codes "Not found")
-page_of edition (targets.SourcePage path) = message_page (codes "Not found")
-page_of edition (targets.Search name page) = message_page (codes "Not found")
+abbrev pub with_code : Code → List ℕ → Answer
+with_code code page = record { code = code; page = page }
+
+abbrev pub not_found : Answer
+not_found = with_code codes_of.NotFound (message_page (codes "Not found"))
+
+-- what answers a target, of an edition; a target that has no page yet isn't found
+abbrev pub page_of : Edition → Target → Answer
+page_of edition targets.List = with_code codes_of.Ok
+    (list_page (map (λ p. p.path) edition.tables.packages) (length edition.tables.faults))
+page_of edition targets.Faults =
+    with_code codes_of.Ok (faults_page edition.sources.entries edition.tables.faults)
+page_of edition targets.BadTarget =
+    with_code codes_of.BadRequest (message_page (codes "Bad request"))
+page_of edition targets.BadVerb =
+    with_code codes_of.NotAllowed (message_page (codes "Method not allowed"))
+page_of edition targets.NotFound = not_found
+page_of edition (targets.PackagePage path) = not_found
+page_of edition (targets.SourcePage path) = not_found
+page_of edition (targets.Search name page) = not_found
 
 -- what stands after the head: the page, and nothing for HEAD
 abbrev pub content_by : Verb → List ℕ → List ℕ
@@ -44,12 +47,11 @@ content_by verbs.Head page = []
 content_by verbs.Other page = page
 
 -- the head of a reply with this page, and the page
-abbrev pub reply_with : Code → List ℕ → ℕ → Verb → Bool → List ℕ
-reply_with code page number verb last =
-    reply_head_of code (length page) number last ++ content_by verb page
+abbrev pub reply_with : Answer → ℕ → Verb → Bool → List ℕ
+reply_with answer number verb last =
+    reply_head_of answer.code (length answer.page) number last ++ content_by verb answer.page
 
 -- the reply of the edition with this number to a request; whether it is the last one
 unfoldable pub reply_of : ℕ → Edition → Request → Bool → List ℕ
 reply_of number edition request last =
-    let target = target_of request in
-    reply_with (code_of target) (page_of edition target) number request.verb last
+    reply_with (page_of edition (target_of request)) number request.verb last

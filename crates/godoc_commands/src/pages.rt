@@ -2,7 +2,7 @@
 
 ghost use Rattle.std.specs.Prelude.{◌≡◌, ◌<◌, ◌++◌, All, IfOk, OnOk, length, map};
 ghost use Rattle.std.specs.List.{flat_map};
-ghost use Rattle.godoc_commands.specs.Pages.{address_of, fault_item, fault_line, faults_line, faults_page, faults_start, file_link, has_page, list_page, list_start, list_end, message, message_page, package_line, page_end, page_start};
+ghost use Rattle.godoc_commands.specs.Pages.{SaysPage, address_of, entry_at, fault_item, fault_line, faults_line, faults_page, faults_start, file_link, has_page, list_page, list_start, list_end, message, message_page, package_line, page_end, page_start};
 
 use crate::faults::push_fault;
 use corpus::{Corpus, FileFault, own_tables};
@@ -141,7 +141,9 @@ fn push_fault_lines(
     corpus: &Corpus,
     faults: &[FileFault],
 ) -> Mem<()>
-    requires { All (λ fault. fault.file < length corpus.now.sources.entries) faults.now }
+    requires within { All (λ fault. fault.file < length corpus.now.sources.entries) faults.now }
+    requires says { All (λ fault. SaysPage fault.fault
+        (entry_at corpus.now.sources.entries fault.file)) faults.now }
     ensures { OnOk result
         (text.new ≡ text.old ++ flat_map (fault_line corpus.now.sources.entries) faults.now) }
 {
@@ -151,15 +153,35 @@ fn push_fault_lines(
             alloc,
             text,
             path,
-            has_page(corpus.entry(fault.file)),
+            has_page(&fault.fault, corpus.entry(fault.file)),
             &fault.fault,
         )?;
     }
     Ok(())
 }
 
-/// Whether a file has a page of its own: its bytes are kept, and are UTF-8.
-fn has_page(entry: &Entry) -> bool
+/// Whether a file with this fault has a page of its own: its bytes are kept, and are UTF-8. Its
+/// bytes are looked at only where it is too large or unread, since any other fault tells.
+fn has_page(fault: &Fault, entry: &Entry) -> bool
+    requires { SaysPage fault.now entry.now }
+    ensures { result ≡ has_page entry.now }
+{
+    match fault {
+        Fault::NotUtf8(_) => false,
+        Fault::FileTooLarge | Fault::Unread => is_text(entry),
+        Fault::BadToken(_)
+        | Fault::OpenComment(_)
+        | Fault::OpenString(_)
+        | Fault::Unbalanced(_)
+        | Fault::NoPackageClause
+        | Fault::BadDeclaration(..)
+        | Fault::OtherPackage(_)
+        | Fault::BadBuildLine(_) => true,
+    }
+}
+
+/// Whether the bytes of a file are kept, and are UTF-8.
+fn is_text(entry: &Entry) -> bool
     ensures { result ≡ has_page entry.now }
 {
     match entry {

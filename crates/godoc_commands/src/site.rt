@@ -1,7 +1,7 @@
 //! What answers requests: which page, with which head.
 
 ghost use Rattle.std.specs.Prelude.{◌≡◌, IfOk};
-ghost use Rattle.godoc_commands.specs.Replies.{code_of, content_by, page_of, reply_with};
+ghost use Rattle.godoc_commands.specs.Replies.{content_by, page_of, reply_with, with_code};
 
 use crate::pages::{faults_page, list_page, message_page};
 use corpus::Corpus;
@@ -11,31 +11,27 @@ use routes::{Router, Target};
 use session::Responder;
 use std::alloc::Global;
 
-/// The status of the reply. A target that has no page yet isn't found.
-fn code_of(target: &Target) -> Code
-    ensures { result ≡ code_of target.now }
-{
-    match target {
-        Target::List | Target::Faults => Code::Ok,
-        Target::BadTarget => Code::BadRequest,
-        Target::BadVerb => Code::NotAllowed,
-        Target::NotFound | Target::PackagePage(_) | Target::SourcePage(_) | Target::Search { .. } =>
-            Code::NotFound,
-    }
+/// What answers a target: the status of the reply, and the bytes of the page.
+#[derive(Drop)]
+struct Answer {
+    code: Code,
+    page: Vec<u8>,
 }
 
-/// The page of the reply.
-fn page_of(alloc: Global, corpus: &Corpus, target: &Target) -> Mem<Vec<u8>>
-    ensures { IfOk result (λ page. page.items ≡ page_of corpus.now target.now) }
+/// What answers a target. One that has no page yet isn't found.
+fn page_of(alloc: Global, corpus: &Corpus, target: &Target) -> Mem<Answer>
+    ensures { IfOk result (λ answer. with_code answer.code answer.page.items
+        ≡ page_of corpus.now target.now) }
 {
-    match target {
-        Target::List => list_page(alloc, corpus),
-        Target::Faults => faults_page(alloc, corpus),
-        Target::BadTarget => message_page(alloc, "Bad request"),
-        Target::BadVerb => message_page(alloc, "Method not allowed"),
+    let (code, page) = match target {
+        Target::List => (Code::Ok, list_page(alloc, corpus)?),
+        Target::Faults => (Code::Ok, faults_page(alloc, corpus)?),
+        Target::BadTarget => (Code::BadRequest, message_page(alloc, "Bad request")?),
+        Target::BadVerb => (Code::NotAllowed, message_page(alloc, "Method not allowed")?),
         Target::NotFound | Target::PackagePage(_) | Target::SourcePage(_) | Target::Search { .. } =>
-            message_page(alloc, "Not found"),
-    }
+            (Code::NotFound, message_page(alloc, "Not found")?),
+    };
+    Ok(Answer { code, page })
 }
 
 /// What stands after the head of a reply: nothing for `HEAD`, and else the page.
@@ -50,17 +46,12 @@ fn content_of(verb: Verb, page: &[u8]) -> &[u8]
 
 /// The reply with a page: its head, with the page's length, and the page unless the method is
 /// `HEAD`.
-fn reply_with(
-    alloc: Global,
-    code: Code,
-    page: &[u8],
-    number: u64,
-    verb: Verb,
-    last: bool,
-) -> Mem<Vec<u8>>
-    ensures { IfOk result (λ reply. reply.items ≡ reply_with code page.now number verb last) }
+fn reply_with(alloc: Global, answer: &Answer, number: u64, verb: Verb, last: bool) -> Mem<Vec<u8>>
+    ensures { IfOk result (λ reply. reply.items
+        ≡ reply_with (with_code answer.now.code answer.now.page.items) number verb last) }
 {
-    let mut reply = reply_head(alloc, code, page.len() as u64, number, last)?;
+    let page = answer.page.as_slice();
+    let mut reply = reply_head(alloc, answer.code, page.len() as u64, number, last)?;
     reply.extend_from_slice(content_of(verb, page))?;
     Ok(reply)
 }
@@ -94,8 +85,7 @@ impl Responder<Corpus> for Site {
         last: bool,
     ) -> Mem<Vec<u8>> {
         let target = self.router.target(alloc, request)?;
-        let page = page_of(alloc, edition, &target)?;
-        let code = code_of(&target);
-        reply_with(alloc, code, page.as_slice(), number, request.verb, last)
+        let answer = page_of(alloc, edition, &target)?;
+        reply_with(alloc, &answer, number, request.verb, last)
     }
 }

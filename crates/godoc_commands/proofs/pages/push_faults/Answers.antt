@@ -3,12 +3,17 @@ use Rattle.std.specs.List.{flat_map}
 use Rattle.std.proofs.lemmas.Result.{on_ok_weaker}
 use Rattle.godoc_commands.specs.Pages.{fault_line, faults_start, list_end}
 use Rattle.corpus.proofs.CorpusLaws.{faults_in_range}
+use Rattle.godoc_commands.proofs.FaultPages.{faults_say}
 use Rattle.godoc_commands.proofs.Joins.{joined_three}
 use Rattle.godoc_commands.proofs.pages.push_faults.Goals as goal
 
-pub push_fault_lines-requires : goal.push_fault_lines-requires
-push_fault_lines-requires c =
+pub push_fault_lines-requires-clause-within : goal.push_fault_lines-requires-clause-within
+push_fault_lines-requires-clause-within c =
     rw c.faults.ensures (faults_in_range _ _ c.own_tables.ensures.tables)
+
+pub push_fault_lines-requires-clause-says : goal.push_fault_lines-requires-clause-says
+push_fault_lines-requires-clause-says c =
+    rw c.faults.ensures (faults_say _ _ c.own_tables.ensures.tables)
 
 pub returns : goal.returns
 unfolding faults_start list_end

@@ -4,7 +4,7 @@ use Rattle.std.specs.Result.{is_ok}
 use Rattle.std.specs.Str.{is_utf8}
 use Rattle.std.proofs.lemmas.Str.{IsUtf8-from_is_utf8, is_utf8-from_IsUtf8}
 use Rattle.godoc_commands.specs.Pages.{has_page}
-use Rattle.godoc_commands.proofs.pages.has_page.Goals as goal
+use Rattle.godoc_commands.proofs.pages.is_text.Goals as goal
 
 not_true : (b : Bool) → (b ≡ true → ⊥) → b ≡ false
 not_true true f = absurd (f refl)
