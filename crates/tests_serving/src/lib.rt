@@ -1,4 +1,4 @@
-//! Tests of links, request heads, routes, sessions, editions, events and workers, through the
+//! Tests of links, the reader of heads, sessions, editions, events and workers, through the
 //! public calls of their libraries.
 #![tactic(auto)]
 
@@ -12,8 +12,6 @@ mod heads;
 mod links;
 #[cfg(test)]
 mod sessions;
-#[cfg(test)]
-mod targets;
 #[cfg(test)]
 mod turns;
 #[cfg(test)]
