@@ -7,7 +7,7 @@ mod Inputs
 mod KeptFiles
 pub mod Lists
 mod Numbers
-mod OneCorpus
+pub mod OneCorpus
 mod PackageCounts
 mod PackageNames
 pub mod PieceLists

@@ -21,7 +21,7 @@ module _ (one_outcome : (path : List ℕ) (entry : Entry) (config : Config) (num
       (subst (λ (t : Input). IsOutcomeOf t.0 t.1 t.2 t.3 g.outcome) (sym same) other) in
       λ i. record { path = (same i).0; entry = (same i).1; config = (same i).2; number = (same i).3; outcome = outcome i }
 
-  same_files : (fs gs : List JudgedFile) → map input_of fs ≡ map input_of gs → All IsJudged fs → All IsJudged gs → fs ≡ gs
+  pub same_files : (fs gs : List JudgedFile) → map input_of fs ≡ map input_of gs → All IsJudged fs → All IsJudged gs → fs ≡ gs
   same_files [] [] same one other = refl
   same_files [] (g ∷ gs) same one other = cc
   same_files (f ∷ fs) [] same one other = cc

@@ -1,4 +1,5 @@
 -- Cited by public clauses.
+pub mod Changes
 pub mod Defaults
 pub mod Faults
 pub mod Find

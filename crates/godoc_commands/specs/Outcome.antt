@@ -1,5 +1,5 @@
 -- Cited by public clauses. What a run did to its tree and its output. The project's own.
-use Rattle.std.specs.Prelude.{◌≡◌, ℕ, ◌⊎◌, List, ◌++◌, Option, ⊤}
+use Rattle.std.specs.Prelude.{◌≡◌, ◌≢◌, ℕ, ◌⊎◌, List, ◌++◌, Option, ⊤}
 use Rattle.corpus.specs.Snapshots.{IsWithinLimits, source_set}
 use Rattle.go_ast.specs.declared.config.Config.{Config}
 use Rattle.link_io.specs.Streams.{Adds}
@@ -8,35 +8,47 @@ use Rattle.tree_io.specs.Scans.{OpensScan}
 use Rattle.tree_io.specs.Sources.{Contents, Sources}
 use Rattle.godoc_commands.specs.declared.status.Status.{Status}
 use Rattle.godoc_commands.specs.declared.status.Status.TheVariants as statuses
+use Rattle.godoc_commands.specs.Changes.{Change, IsUnchanged, OutputState, TreeState, after, before}
 use Rattle.godoc_commands.specs.Find.{IsFindText}
+use Rattle.godoc_commands.specs.Limits.{IsTooLarge}
 
 -- at most one scan was opened
 abbrev pub OpensAtMostOne : Option (List Contents) → Option (List Contents) → Type 0
 OpensAtMostOne before now = (now ≡ before) ⊎ OpensScan before now
 
--- the text of `find`, by this configuration, over sources of the scan under way, which are within
--- the limits, scanned while the count of read faults went from before to now
-pub record FindsFrom (config : Config) (name : List ℕ) (scans : Option (List Contents))
-    (before now : ℕ) (text : List ℕ) : Type 0 where
+-- what a command's one scan came to
+pub record ScansOnce {T : Type 0} (tree : Change T TreeState) (status : Status) : Type 0 where
+  -- the command opens a scan, unless the tree can't be listed or `NoMemory` comes before
+  pub opened : status ≢ statuses.TreeFault → status ≢ statuses.NoMemory
+      → OpensScan (before tree).scans (after tree).scans
+  -- the tree is too large by its files, or by the bytes of those that were read
+  pub limit : (files bytes : ℕ) → status ≡ statuses.Limit files bytes
+      → IsTooLarge (after tree).scans (before tree).read_faults (after tree).read_faults files bytes
+
+-- the text of `find`, by this configuration, over the sources of the scan under way, which are
+-- within the limits
+pub record FindsFrom {T : Type 0} (config : Config) (name : List ℕ) (tree : Change T TreeState)
+    (text : List ℕ) : Type 0 where
   pub sources : Sources
-  pub scanned : IsScannedFrom scans sources before now
+  pub scanned : IsScannedFrom (after tree).scans sources (before tree).read_faults
+      (after tree).read_faults
   pub within : IsWithinLimits sources
   pub all : IsFindText name (source_set config sources) text
 
 -- the output gained exactly that text
-pub record WritesFound (config : Config) (name : List ℕ) (scans : Option (List Contents))
-    (before now : ℕ) (held gained : Option (List ℕ)) : Type 0 where
+pub record WritesFound {T O : Type 0} (config : Config) (name : List ℕ) (tree : Change T TreeState)
+    (out : Change O OutputState) : Type 0 where
   pub text : List ℕ
-  pub found : FindsFrom config name scans before now text
-  pub written : Adds held text gained
+  pub found : FindsFrom config name tree text
+  pub written : Adds (before out).held text (after out).held
 
--- the output gained a first part of that text
-pub record WritesFront (config : Config) (name : List ℕ) (scans : Option (List Contents))
-    (before now : ℕ) (held gained : Option (List ℕ)) : Type 0 where
-  pub front : List ℕ
+-- the output gained a prefix of that text
+pub record WritesPrefix {T O : Type 0} (config : Config) (name : List ℕ) (tree : Change T TreeState)
+    (out : Change O OutputState) : Type 0 where
+  pub prefix : List ℕ
   pub rest : List ℕ
-  pub found : FindsFrom config name scans before now (front ++ rest)
-  pub written : Adds held front gained
+  pub found : FindsFrom config name tree (prefix ++ rest)
+  pub written : Adds (before out).held prefix (after out).held
 
 -- a status after which nothing was made of the tree: it could not be listed, or is too large
 abbrev pub IsOfTree : Status → Type 0
@@ -53,7 +65,17 @@ IsOfFind statuses.WriteFault = ⊤
 IsOfFind statuses.NoMemory = ⊤
 IsOfFind status = ⊥
 
--- an end without a fault: all was done, memory was wanting, or the tree is too large
+-- what `find` did for a name, by this configuration
+pub record FindsPlan {T O : Type 0} (config : Config) (name : List ℕ) (tree : Change T TreeState)
+    (out : Change O OutputState) (status : Status) : Type 0 where
+  pub of_find : IsOfFind status
+  pub scan : ScansOnce tree status
+  pub found : status ≡ statuses.Done → WritesFound config name tree out
+  pub prefix : status ≡ statuses.WriteFault → WritesPrefix config name tree out
+  pub no_memory : status ≡ statuses.NoMemory
+      → IsUnchanged out ⊎ WritesPrefix config name tree out
+
+-- an end without a fault: all was done, an allocation was refused, or the tree is too large
 abbrev pub IsWithoutFault : Status → Type 0
 IsWithoutFault statuses.Done = ⊤
 IsWithoutFault (statuses.Limit files bytes) = ⊤

@@ -2,7 +2,7 @@
 -- is escaped in an address is RFC 3986, section 2.1.
 use Rattle.std.specs.Prelude.{◌≡◌, ⊤, ℕ, Bool, true, false, ◌||◌, ◌==◌, List, [], ◌∷◌, ◌++◌, codes, decimal, if◌then◌else◌, map, slice_get, unwrap_or}
 use Rattle.std.specs.Char.{is_ascii_alphanumeric}
-use Rattle.std.specs.List.{flat_map}
+use Rattle.std.specs.List.{flat_map, list_any}
 use Rattle.std.specs.Str.{is_utf8}
 use Rattle.corpus.specs.declared.faults.FileFault.{FileFault}
 use Rattle.go_ast.specs.declared.fault.Fault.{Fault}
@@ -18,7 +18,7 @@ use Rattle.godoc_commands.specs.Faults.{fault_text}
 -- a byte that stands for itself in an address: an unreserved character (RFC 3986, section 2.3),
 -- which is an ASCII letter, a digit, `-`, `.`, `_` or `~`, and `/`
 abbrev pub is_plain : ℕ → Bool
-is_plain b = is_ascii_alphanumeric b || (b == 45 || (b == 46 || (b == 95 || (b == 126 || b == 47))))
+is_plain b = is_ascii_alphanumeric b || list_any (λ mark. b == mark) (codes "-._~/")
 
 -- what stands for a byte of a path in an address
 abbrev pub address_byte : ℕ → List ℕ

@@ -1,5 +1,5 @@
 -- Cited by public clauses. What `answer` did. The project's own.
-use Rattle.std.specs.Prelude.{◌≡◌, ◌≢◌, ℕ, ◌↔◌, Bool, IsTrue, List, [], ◌∷◌, replicate, Option, IfSome, ⊤}
+use Rattle.std.specs.Prelude.{◌≡◌, ◌≢◌, ℕ, ◌⊎◌, ◌↔◌, Bool, IsTrue, List, [], ◌∷◌, replicate, Option, IfSome, ⊤}
 use Rattle.corpus.specs.Corpora.{Edition, IsEdition}
 use Rattle.go_ast.specs.declared.config.Config.{Config}
 use Rattle.http_wire.specs.declared.request.Request.{Request}
@@ -10,16 +10,19 @@ use Rattle.session.specs.declared.session_end.SessionEnd.TheVariants as ends
 use Rattle.session.specs.Session.{IsAnswered}
 use Rattle.tree_io.specs.Entries.{IsScannedFrom}
 use Rattle.tree_io.specs.Scans.{OpensScan}
-use Rattle.tree_io.specs.Sources.{Contents}
 use Rattle.godoc_commands.specs.declared.status.Status.{Status}
 use Rattle.godoc_commands.specs.declared.status.Status.TheVariants as statuses
+use Rattle.godoc_commands.specs.Changes.{Change, InputState, IsUnchanged, OutputState, TreeState}
+use Rattle.godoc_commands.specs.Changes.{after, before}
+use Rattle.godoc_commands.specs.Outcome.{IsOfTree, ScansOnce}
 use Rattle.godoc_commands.specs.Replies.{reply_of}
 
 -- the edition that sources of the scan under way define for a configuration; they are within the
--- limits, and were scanned while the count of read faults went from before to now
-pub record IsEditionOf (config : Config) (scans : Option (List Contents)) (before now : ℕ)
+-- limits
+pub record IsEditionOf {T : Type 0} (config : Config) (tree : Change T TreeState)
     (edition : Edition) : Type 0 where
-  pub scanned : IsScannedFrom scans edition.sources.entries before now
+  pub scanned : IsScannedFrom (after tree).scans edition.sources.entries (before tree).read_faults
+      (after tree).read_faults
   pub config_is : edition.sources.config ≡ config
   pub own : IsEdition edition
 
@@ -51,17 +54,6 @@ status_after ends.ReadFault = statuses.ReadFault
 status_after ends.WriteFault = statuses.WriteFault
 status_after ends.NoMemory = statuses.NoMemory
 
--- what `answer` did where it had an edition: it opened one scan, from which the edition is, for
--- this configuration, and its session gives the status
-pub record Answers (config : Config) (scans scans_after : Option (List Contents)) (before now : ℕ)
-    (remaining remaining_after held held_after : Option (List ℕ)) (status : Status) : Type 0 where
-  pub edition : Edition
-  pub opened : OpensScan scans scans_after
-  pub defined : IsEditionOf config scans_after before now edition
-  pub end : SessionEnd
-  pub session : Serves edition remaining remaining_after held held_after end
-  pub status_is : status ≡ status_after end
-
 -- a status that `answer` has
 abbrev pub IsOfAnswer : Status → Type 0
 IsOfAnswer statuses.Done = ⊤
@@ -71,3 +63,30 @@ IsOfAnswer statuses.ReadFault = ⊤
 IsOfAnswer statuses.WriteFault = ⊤
 IsOfAnswer statuses.NoMemory = ⊤
 IsOfAnswer status = ⊥
+
+-- What `answer` did where it had an edition: it opened one scan, which defines the edition for this
+-- configuration, and its session gives the status.
+pub record Answers {T I O : Type 0} (config : Config) (tree : Change T TreeState)
+    (input : Change I InputState) (out : Change O OutputState) (status : Status) : Type 0 where
+  pub edition : Edition
+  pub opened : OpensScan (before tree).scans (after tree).scans
+  pub defined : IsEditionOf config tree edition
+  pub end : SessionEnd
+  pub session : Serves edition (before input).remaining (after input).remaining (before out).held
+      (after out).held end
+  pub status_is : status ≡ status_after end
+
+-- neither the input nor the output is changed
+abbrev pub AreUnchanged : {I O : Type 0} → Change I InputState → Change O OutputState → Type 0
+AreUnchanged input out = IsUnchanged input × IsUnchanged out
+
+-- what `answer` did, by this configuration
+pub record AnswersPlan {T I O : Type 0} (config : Config) (tree : Change T TreeState)
+    (input : Change I InputState) (out : Change O OutputState) (status : Status) : Type 0 where
+  pub of_answer : IsOfAnswer status
+  pub scan : ScansOnce tree status
+  -- unless the tree gave no edition, the output gained the replies of an edition of this call's scan
+  pub answered : (IsOfTree status → ⊥) → status ≢ statuses.NoMemory
+      → Answers config tree input out status
+  pub no_memory : status ≡ statuses.NoMemory
+      → AreUnchanged input out ⊎ Answers config tree input out status

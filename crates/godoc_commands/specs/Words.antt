@@ -1,7 +1,9 @@
 -- Cited by public clauses. The words of the command line. The project's own.
-use Rattle.std.specs.Prelude.{ℕ, ◌&&◌, List, [], ◌∷◌, Option, Some, None, codes, drop, slice_index_or, ⊤, if◌then◌else◌}
+use Rattle.std.specs.Prelude.{ℕ, ◌&&◌, List, [], ◌∷◌, Option, Some, None, codes, drop, option_map, slice_index_or, if◌then◌else◌}
 use Rattle.std.specs.Str.{bytes_eq}
+use Rattle.go_ast.specs.declared.config.Config.{Config}
 use Rattle.go_chars.specs.Identifiers.{is_name}
+use Rattle.godoc_commands.specs.Defaults.{defaults}
 
 -- the root folder of a command line, which begins with the program's name: the word after that, and
 -- the empty text where there is none
@@ -12,7 +14,7 @@ root_of line = slice_index_or line 1 []
 abbrev pub words_after_root : List (List ℕ) → List (List ℕ)
 words_after_root line = drop 2 line
 
--- what the words ask for
+-- what the program can be asked for
 pub data Command : Type 0 where
   -- the places of a name
   find : List ℕ → Command
@@ -28,8 +30,12 @@ command_of (word ∷ name ∷ []) =
     if bytes_eq word (codes "find") && is_name name then Some (find name) else None
 command_of (word ∷ name ∷ other ∷ words) = None
 
--- the words ask for a command that scans the tree
-abbrev pub AskForScan : Option Command → Type 0
-AskForScan (Some (find name)) = ⊤
-AskForScan (Some answer) = ⊤
-AskForScan None = ⊥
+-- a command, and the configuration that it reads the tree for
+pub record Plan : Type 0 where
+  pub command : Command
+  pub config : Config
+
+-- what the words ask for, where they ask for something
+abbrev pub plan_of : List (List ℕ) → Option Plan
+plan_of words =
+    option_map (λ command. record { command = command; config = defaults }) (command_of words)

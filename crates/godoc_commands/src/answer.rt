@@ -1,21 +1,20 @@
 //! The command `answer`: the requests of one connection, answered by one edition.
 //!
-//! Four functions hand its session on, since each tells of it in other terms: by what the one
+//! Four functions hand its session on, since each describes it in other terms: by what the one
 //! reader was told, by the edition and a link, by an input and an output, and as a run's status.
 
-ghost use Rattle.std.specs.Prelude.{◌≡◌, ◌≢◌, ◌⊎◌, true, ℕ, [], ◌∷◌, All, vec_len};
+ghost use Rattle.std.specs.Prelude.{◌≡◌, true, [], ◌∷◌, All, vec_len};
 ghost use Rattle.corpus.specs.Corpora.{Edition};
 ghost use Rattle.plain_data.specs.Causes.{IsCaused};
-ghost use Rattle.tree_io.specs.Scans.{OpensScan};
-ghost use Rattle.godoc_commands.specs.Defaults.{defaults};
-ghost use Rattle.godoc_commands.specs.Limits.{IsTooLarge};
+ghost use Rattle.godoc_commands.specs.Changes.{input_change, output_change, tree_change};
 ghost use Rattle.godoc_commands.specs.Outcome.{IsOfTree, OpensAtMostOne};
-ghost use Rattle.godoc_commands.specs.Serving.{Answers, IsOfAnswer, Serves};
+ghost use Rattle.godoc_commands.specs.Serving.{AnswersPlan, Serves};
 
-use crate::scan::scan_defaults;
+use crate::scan::scan_edition;
 use crate::site::Site;
 use crate::status::Status;
 use corpus::Corpus;
+use go_ast::Config;
 use link_io::{Both, Link, Sink, Source};
 use publication::{EditionReader, Told, open_editions};
 use session::{SessionEnd, serve_link};
@@ -23,7 +22,7 @@ use std::alloc::Global;
 use std::sync::{Arc, Wait};
 use tree_io::Tree;
 
-/// Serves one connection by a history of one edition, and tells why the session ended.
+/// Serves one connection by a history of one edition, and returns why the session ended.
 fn serve<R: Wait, L: Link>(rt: &R, alloc: Global, edition: Corpus, link: &mut L) -> SessionEnd
     ensures session { Serves edition (L.remaining link.old) (L.remaining link.new)
         (L.held link.old) (L.held link.new) result }
@@ -91,27 +90,20 @@ fn serve_between<R: Wait, I: Source, O: Sink>(
     serve(rt, alloc, edition, &mut Both { input, out })
 }
 
-/// Scans a tree once, and answers the requests of the input by the edition of that scan.
+/// Scans a tree once for a configuration, and answers the requests of the input by the edition of
+/// that scan.
 pub(crate) fn answer<R: Wait, T: Tree, I: Source, O: Sink>(
     rt: &R,
     alloc: Global,
+    config: &Config,
     tree: &mut T,
     input: &mut I,
     out: &mut O,
 ) -> Status
-    ensures statuses { IsOfAnswer result }
-    ensures answered { (IsOfTree result → ⊥) → result ≢ Status.NoMemory
-        → Answers defaults (T.scans tree.old) (T.scans tree.new)
-        (T.read_faults tree.old) (T.read_faults tree.new)
-        (I.remaining input.old) (I.remaining input.new) (O.held out.old) (O.held out.new) result }
-    ensures starved { result ≡ Status.NoMemory
-        → ((input.new ≡ input.old) × (out.new ≡ out.old))
-        ⊎ Answers defaults (T.scans tree.old) (T.scans tree.new)
-        (T.read_faults tree.old) (T.read_faults tree.new)
-        (I.remaining input.old) (I.remaining input.new) (O.held out.old) (O.held out.new) result }
-    ensures limit { (files bytes : ℕ) → result ≡ Status.Limit files bytes
-        → IsTooLarge (T.scans tree.new)
-        (T.read_faults tree.old) (T.read_faults tree.new) files bytes }
+    ensures answers { AnswersPlan config.now
+        (tree_change T.scans T.list_faults T.read_faults tree.old tree.new)
+        (input_change I.remaining I.read_faults input.old input.new)
+        (output_change O.held O.write_faults out.old out.new) result }
     ensures unread { IsOfTree result → input.new ≡ input.old }
     ensures unwritten { IsOfTree result → out.new ≡ out.old }
     ensures list_faults { IsCaused (T.list_faults tree.old) (T.list_faults tree.new)
@@ -120,11 +112,9 @@ pub(crate) fn answer<R: Wait, T: Tree, I: Source, O: Sink>(
         (result ≡ Status.ReadFault) }
     ensures write_faults { IsCaused (O.write_faults out.old) (O.write_faults out.new)
         (result ≡ Status.WriteFault) }
-    ensures one_scan { result ≢ Status.TreeFault → result ≢ Status.NoMemory
-        → OpensScan (T.scans tree.old) (T.scans tree.new) }
     ensures at_most_one_scan { OpensAtMostOne (T.scans tree.old) (T.scans tree.new) }
 {
-    match scan_defaults(alloc, tree) {
+    match scan_edition(alloc, config, tree) {
         Ok(corpus) => Status::from(serve_between(rt, alloc, corpus, input, out)),
         Err(fault) => Status::from(fault),
     }

@@ -1,20 +1,18 @@
 //! The command `find`: the places where a name stands as an identifier.
 
-ghost use Rattle.std.specs.Prelude.{◌≡◌, ◌≢◌, ◌⊎◌, ℕ, All, OnErr, OnOk};
+ghost use Rattle.std.specs.Prelude.{◌≡◌, All, OnErr, OnOk};
 ghost use Rattle.std.specs.List.{flat_map};
 ghost use Rattle.link_io.specs.Streams.{Adds};
 ghost use Rattle.plain_data.specs.Causes.{HasIoCause, IsCaused};
-ghost use Rattle.tree_io.specs.Scans.{OpensScan};
-ghost use Rattle.godoc_commands.specs.Defaults.{defaults};
+ghost use Rattle.godoc_commands.specs.Changes.{output_change, tree_change};
 ghost use Rattle.godoc_commands.specs.HitLines.{AddsFound, AddsFoundFront, AddsFront, IsHitIn, hit_line};
-ghost use Rattle.godoc_commands.specs.Limits.{IsTooLarge};
-ghost use Rattle.godoc_commands.specs.Outcome.{IsOfFind, IsOfTree, OpensAtMostOne, WritesFound, WritesFront};
+ghost use Rattle.godoc_commands.specs.Outcome.{FindsPlan, IsOfTree, OpensAtMostOne};
 
 use crate::hit_lines::{hits_of, lines_of};
-use crate::scan::scan_defaults;
+use crate::scan::scan_edition;
 use crate::status::Status;
 use corpus::{Corpus, own_tables};
-use go_ast::{IoFail, Txt};
+use go_ast::{Config, IoFail, Txt};
 use ident_index::Hit;
 use link_io::{Sink, write_whole};
 use std::alloc::Global;
@@ -82,29 +80,26 @@ fn write_found<O: Sink>(
     write_lines(alloc, corpus, hits_of(corpus, &name), out)
 }
 
-/// Writes a line for each place where a name stands as an identifier in a tree, over one scan.
-pub(crate) fn find<T: Tree, O: Sink>(alloc: Global, name: &str, tree: &mut T, out: &mut O) -> Status
-    ensures statuses { IsOfFind result }
-    ensures found { result ≡ Status.Done → WritesFound defaults name.now (T.scans tree.new)
-        (T.read_faults tree.old) (T.read_faults tree.new) (O.held out.old) (O.held out.new) }
-    ensures front { result ≡ Status.WriteFault → WritesFront defaults name.now (T.scans tree.new)
-        (T.read_faults tree.old) (T.read_faults tree.new) (O.held out.old) (O.held out.new) }
-    ensures starved { result ≡ Status.NoMemory
-        → (out.new ≡ out.old) ⊎ WritesFront defaults name.now (T.scans tree.new)
-        (T.read_faults tree.old) (T.read_faults tree.new) (O.held out.old) (O.held out.new) }
-    ensures limit { (files bytes : ℕ) → result ≡ Status.Limit files bytes
-        → IsTooLarge (T.scans tree.new)
-        (T.read_faults tree.old) (T.read_faults tree.new) files bytes }
+/// Writes a line for each place where a name stands as an identifier in a tree, over one scan for a
+/// configuration.
+pub(crate) fn find<T: Tree, O: Sink>(
+    alloc: Global,
+    config: &Config,
+    name: &str,
+    tree: &mut T,
+    out: &mut O,
+) -> Status
+    ensures finds { FindsPlan config.now name.now
+        (tree_change T.scans T.list_faults T.read_faults tree.old tree.new)
+        (output_change O.held O.write_faults out.old out.new) result }
     ensures unwritten { IsOfTree result → out.new ≡ out.old }
     ensures list_faults { IsCaused (T.list_faults tree.old) (T.list_faults tree.new)
         (result ≡ Status.TreeFault) }
     ensures write_faults { IsCaused (O.write_faults out.old) (O.write_faults out.new)
         (result ≡ Status.WriteFault) }
-    ensures one_scan { result ≢ Status.TreeFault → result ≢ Status.NoMemory
-        → OpensScan (T.scans tree.old) (T.scans tree.new) }
     ensures at_most_one_scan { OpensAtMostOne (T.scans tree.old) (T.scans tree.new) }
 {
-    let corpus = match scan_defaults(alloc, tree) {
+    let corpus = match scan_edition(alloc, config, tree) {
         Ok(corpus) => corpus,
         Err(fault) => return Status::from(fault),
     };

@@ -18,6 +18,7 @@ mod config;
 mod faults;
 mod find;
 mod hit_lines;
+mod laws;
 mod pages;
 mod scan;
 mod site;
@@ -26,4 +27,5 @@ mod words;
 
 pub use command_line::CommandLine;
 pub use commands::run;
+pub use laws::find_has_one_text;
 pub use status::Status;

@@ -9,12 +9,11 @@ ghost use Rattle.plain_data.specs.Causes.{IsCaused};
 ghost use Rattle.tree_io.specs.Entries.{IsReadSoFar, IsScannedFrom};
 ghost use Rattle.tree_io.specs.Scans.{OpensScan, under_way};
 ghost use Rattle.tree_io.specs.Sources.{IsSources, bytes_at};
-ghost use Rattle.godoc_commands.specs.Defaults.{defaults};
+ghost use Rattle.godoc_commands.specs.Changes.{tree_change};
 ghost use Rattle.godoc_commands.specs.Outcome.{OpensAtMostOne};
 ghost use Rattle.godoc_commands.specs.Serving.{IsEditionOf};
 ghost use Rattle.godoc_commands.specs.Steps.{IsReadFault, IsScanFault};
 
-use crate::config::default_config;
 use corpus::{Corpus, MAX_FILES, MAX_SCAN_BYTES, Snapshot, assemble, entry_size, own_tables};
 use corpus_piece::{Piece, make_piece};
 use go_ast::{Config, IoFail, Mem, NoMemory, Seq, Txt, copy_config};
@@ -59,11 +58,18 @@ impl From<IoFail> for ScanFault {
     }
 }
 
-/// Scans a tree once for the configuration of the defaults.
-pub(crate) fn scan_defaults<T: Tree>(alloc: Global, tree: &mut T) -> Result<Corpus, ScanFault>
-    ensures edition { IfOk result
-        (IsEditionOf defaults (T.scans tree.new)
-        (T.read_faults tree.old) (T.read_faults tree.new)) }
+/// Scans a tree once for a configuration.
+///
+/// # Errors
+///
+/// Those of [`scan_tree`].
+pub(crate) fn scan_edition<T: Tree>(
+    alloc: Global,
+    config: &Config,
+    tree: &mut T,
+) -> Result<Corpus, ScanFault>
+    ensures edition { IfOk result (IsEditionOf config.now
+        (tree_change T.scans T.list_faults T.read_faults tree.old tree.new)) }
     ensures refused { IfErr result (IsScanFault (T.scans tree.new)
         (T.read_faults tree.old) (T.read_faults tree.new)) }
     ensures list_faults { IsCaused (T.list_faults tree.old) (T.list_faults tree.new)
@@ -72,8 +78,7 @@ pub(crate) fn scan_defaults<T: Tree>(alloc: Global, tree: &mut T) -> Result<Corp
         → OpensScan (T.scans tree.old) (T.scans tree.new) }
     ensures at_most_one_scan { OpensAtMostOne (T.scans tree.old) (T.scans tree.new) }
 {
-    let config = default_config(alloc)?;
-    let corpus = scan_tree(alloc, tree, &config)?;
+    let corpus = scan_tree(alloc, tree, config)?;
     own_tables(&corpus);
     Ok(corpus)
 }
