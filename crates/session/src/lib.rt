@@ -14,10 +14,12 @@
 #![tactic(auto)]
 
 mod incoming;
+mod laws;
 mod responder;
 mod serve;
 mod session_end;
 
+pub use laws::less_than_one_read_follows_the_next_head;
 pub use responder::Responder;
 pub use serve::serve_link;
 pub use session_end::SessionEnd;
