@@ -37,8 +37,10 @@ HasHeard-more left middle after old now new rest bytes heard same takes fed_is s
       takes = Takes-then left middle after heard.bytes bytes heard.takes takes;
       given = λ fed given before.
           let grown : HasGiven ((fed ++ heard.bytes) ++ bytes) given (now.rest ++ bytes) =
-          HasGiven-append (fed ++ heard.bytes) bytes now.rest given (heard.given fed given before) in
-          let rest_is : now.rest ++ bytes ≡ new.rest = ap (λ w. w ++ bytes) (sym same) ∙ sym fed_is in
+          HasGiven-append (fed ++ heard.bytes) bytes now.rest given
+          (heard.given fed given before) in
+          let rest_is : now.rest ++ bytes ≡ new.rest = ap (λ w. w ++ bytes) (sym same)
+          ∙ sym fed_is in
           subst (λ w. HasGiven w given new.rest) (append_assoc fed heard.bytes bytes)
           (subst (HasGiven ((fed ++ heard.bytes) ++ bytes) given) rest_is grown);
       paced = λ fed given before paced. record {

@@ -193,7 +193,8 @@ Progress-more reply left middle after held held_now held_after old view new read
       told = told_with so_far new request last enters later last_is;
       fresh = fresh_with so_far new request last enters later last_is;
       has_given = hears.comes so_far.read so_far.given so_far.has_given;
-      none_closes = some_closes-append so_far.given (request ∷ []) ∙ by_parts (some_closes so_far.given)
+      none_closes = some_closes-append so_far.given (request ∷ [])
+          ∙ by_parts (some_closes so_far.given)
           request.close so_far.none_closes goes_on;
       counted = simp length-append (omega (arith, so_far.counted));
       each = simp length-append (omega (arith, so_far.each));

@@ -314,7 +314,8 @@ Session-unentered {E = E} reply left middle after held held_now old view new rea
     let takes : Takes left fed after = Takes-then left middle after so_far.read hears.bytes
     so_far.takes hears.takes in
     ⊎_elim
-    (λ same. subst (λ (w : View E). Session reply (bytes_state left held) (bytes_state after held_now) old w ends.NoMemory)
+    (λ same. subst (λ (w : View E). Session reply (bytes_state left held)
+    (bytes_state after held_now) old w ends.NoMemory)
     (sym same)
     (Session-from reply left after held held_now old view ends.NoMemory fed so_far.written
     so_far.entries now.ended takes so_far.adds so_far.gains so_far.known so_far.fresh at_end
@@ -352,8 +353,10 @@ Session-unanswered reply left middle after held held_now held_after old view new
     (paced_after so_far hears.bytes (hears.paced so_far.read so_far.given so_far.has_given)))
 Session-unanswered reply left middle after held held_now held_after old view new reading now count
     request last so_far room hears at_end enters later last_is stops.NoMemory same =
-    subst (λ w. Session reply (bytes_state left held) (bytes_state after w) old new ends.NoMemory) (sym same)
-    (no_memory_with_entry reply left middle after held held_now old view new reading now count request
+    subst (λ w. Session reply (bytes_state left held) (bytes_state after w) old new ends.NoMemory)
+    (sym same)
+    (no_memory_with_entry reply left middle after held held_now old view new reading now count
+    request
     so_far room hears at_end later enters)
 Session-unanswered reply left middle after held held_now held_after old view new reading now count
     request last so_far room hears at_end enters later last_is stops.ReadFault none = absurd none
@@ -366,7 +369,8 @@ pub Session-closed : {E : Type 0} (reply : Replier E) (left middle after held he
     → Hears middle after reading now (Ok (answers.Head request)) → KnowsEnd after now
     → Enters view new → StartsWith new.seen view.seen → last ≡ is_last (count + 1) request
     → Adds held_now (newest_reply reply new request last) held_after
-    → request.close ≡ true → Session reply (bytes_state left held) (bytes_state after held_after) old new ends.Closed
+    → request.close ≡ true
+    → Session reply (bytes_state left held) (bytes_state after held_after) old new ends.Closed
 Session-closed reply left middle after held held_now held_after old view new reading now count
     request last so_far room hears at_end enters later last_is adds closes =
     let fed : List ℕ = so_far.read ++ hears.bytes in

@@ -8,9 +8,9 @@ use Rattle.session.specs.Text.{request_limit, some_closes}
 abbrev pub read_limit : ℕ
 read_limit = 4096
 
--- The last read was made where the bytes before it hold at most `count` requests, and what follows
--- these is neither a request nor refused nor the end of the input. So at most one further request
--- begins in the bytes before the last read, and after it less than one read was taken.
+-- The last read was made where the bytes before it hold at most `count` requests, and nothing is
+-- decided of what follows these: it is no head, isn't refused, and the input hasn't ended. So less
+-- than one read follows the next head, which is the law `less_than_one_read_follows_the_next_head`.
 pub record IsPaced (read : List ℕ) (count : ℕ) : Type 0 where
   pub before : List ℕ
   pub last : List ℕ

@@ -93,9 +93,9 @@ end_at Clean = ends.Closed
 end_at Bad = ends.Refused
 end_at Unfinished = ends.ReadFault
 
--- How a session ends where no write fails and memory doesn't run out: closed where a request that is
--- answered asks for it, full where there are 1,000 requests and none of these does, and otherwise as
--- the stream ends.
+-- How a session ends where no write fails and memory doesn't run out: closed where a request that
+-- is answered asks for it, full where there are 1,000 requests and none of these does, and
+-- otherwise as the stream ends.
 abbrev pub end_of : List Request → StreamEnd → SessionEnd
 end_of requests end =
     if some_closes (answerable requests) then ends.Closed

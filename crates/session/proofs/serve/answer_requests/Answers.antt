@@ -68,7 +68,8 @@ returns-in_err-entered-clause-session g c =
 pub returns-in_err-answer-clause-session : goal.returns-in_err-answer-clause-session
 returns-in_err-answer-clause-session g c =
     let hears = rw c.in-Head.is at c.in_ok-request.ensures.hears in
-    let enters = known_entry _ _ c.in_ok-entered.ensures.only_sees.view c.in_ok-entered.ensures.entry
+    let enters = known_entry _ _ c.in_ok-entered.ensures.only_sees.view
+    c.in_ok-entered.ensures.entry
     c.in_ok-entered.ensures.informed c.in_ok-entered.ensures.only_sees.told in
     let made = newest_reply-made (g.R.Responder.reply_of c.args.site.now) c.enter.new.self
     c.in-Head.request c.is_last-last.result _ _ c.in_ok-entered.ensures.newest
@@ -90,7 +91,8 @@ returns-in_err-answer-clause-session g c =
 pub returns-then-request-clause-session : goal.returns-then-request-clause-session
 returns-then-request-clause-session g c =
     let hears = rw c.in-Head.is at c.in_ok-request.ensures.hears in
-    let enters = known_entry _ _ c.in_ok-entered.ensures.only_sees.view c.in_ok-entered.ensures.entry
+    let enters = known_entry _ _ c.in_ok-entered.ensures.only_sees.view
+    c.in_ok-entered.ensures.entry
     c.in_ok-entered.ensures.informed c.in_ok-entered.ensures.only_sees.told in
     let made = newest_reply-made (g.R.Responder.reply_of c.args.site.now) c.enter.new.self
     c.in-Head.request c.is_last-last.result _ _ c.in_ok-entered.ensures.newest
@@ -117,7 +119,8 @@ loop-answered-init g c = record {
 pub loop-answered-preserved : goal.loop-answered-preserved
 loop-answered-preserved g c =
     let hears = rw c.in-Head.is at c.in_ok-request.ensures.hears in
-    let enters = known_entry _ _ c.in_ok-entered.ensures.only_sees.view c.in_ok-entered.ensures.entry
+    let enters = known_entry _ _ c.in_ok-entered.ensures.only_sees.view
+    c.in_ok-entered.ensures.entry
     c.in_ok-entered.ensures.informed c.in_ok-entered.ensures.only_sees.told in
     let made = newest_reply-made (g.R.Responder.reply_of c.args.site.now) c.enter.new.self
     c.in-Head.request c.is_last-last.result _ _ c.in_ok-entered.ensures.newest
