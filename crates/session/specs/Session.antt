@@ -63,7 +63,7 @@ pub record Exchange {E : Type 0} (reply : Replier E) (history : List E) (read wr
   pub given : HasGiven read requests rest
   pub one_each : length requests ≡ length entries
   -- They are all requests of the bytes read, and the stream ends so. Otherwise memory ran out, or
-  -- the session ended in the last reply; then `answered` holds of each end.
+  -- the session ended in its last reply; what `answered` says doesn't depend on the end then.
   pub end : StreamEnd
   pub is_end : Requests read ended requests end
       ⊎ (result ≡ ends.NoMemory)
