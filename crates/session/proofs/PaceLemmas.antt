@@ -3,31 +3,13 @@ use Rattle.std.proofs.Common.{◌⊎◌, ◌≡◌, ℕ, ◌+◌, ◌<◌, ◌�
 use Rattle.std.proofs.Common.{drop, refl, sym, ap, ◌∙◌, subst, arith, length-append, inl, inr}
 use Rattle.std.proofs.Common.{⊎_elim}
 use Rattle.std.proofs.Math.Seq.{drop-append_seam}
-use Rattle.std.proofs.lemmas.Bool.{cases_lt, false≢true}
+use Rattle.std.proofs.lemmas.Bool.{cases_lt}
 use Rattle.std.proofs.lemmas.List.{drop-append-le, take-append-drop, take-append-le, take_at}
-use Rattle.httparse.specs.Grammar.{RequestHead, ReadsRequest, print_request}
+use Rattle.httparse.specs.Grammar.{print_request}
 use Rattle.http_wire.specs.declared.request.Request.{Request}
-use Rattle.http_wire.specs.Requests.{IsRefused, breaks_rule, hopeless, too_long, cut_off, Requests}
 use Rattle.http_wire.specs.Requests.{waits, Unfinished, HasGiven, none_yet, one_more}
 use Rattle.session.specs.Pace.{IsPaced}
 use Rattle.session.proofs.StreamLaws.{Requests-split}
-
-none_in_nothing : (head : RequestHead) (after : List ℕ) → ReadsRequest [] head after → ⊥
-unfolding print_request
-none_in_nothing head after reads =
-    let whole : 0 ≡ length (print_request head) + length after =
-    ap length reads.1 ∙ length-append (print_request head) after in
-    let some : 1 ≤ length (print_request head) = simp length-append (omega arith) in
-    omega arith
-
-nothing_waits : Requests [] false [] Unfinished
-nothing_waits = waits [] (λ head after reads rules. none_in_nothing head after reads) not_refused
-  where
-    not_refused : IsRefused [] false → ⊥
-    not_refused (breaks_rule broken) = none_in_nothing broken.0 broken.1 broken.2
-    not_refused (hopeless never) = false≢true never.line
-    not_refused (too_long long) = omega arith
-    not_refused (cut_off over other) = false≢true over
 
 -- nothing is read
 pub IsPaced-nothing : IsPaced [] 0
@@ -37,7 +19,7 @@ IsPaced-nothing = record {
   all = refl;
   short = omega arith;
   requests = [];
-  undecided = nothing_waits;
+  undecided = waits [] (record { short = omega arith; undecided = inl refl });
   few = omega arith;
 }
 

@@ -4,7 +4,7 @@ use Rattle.std.proofs.Common.{subst, append_assoc, append-nil}
 use Rattle.http_wire.specs.declared.request.Request.{Request}
 use Rattle.http_wire.specs.Requests.{BeginsWith, StreamEnd, Clean, Bad, Unfinished, Requests, next}
 use Rattle.http_wire.specs.Requests.{refused, ends, waits, HasGiven, none_yet, one_more}
-use Rattle.http_wire.proofs.RequestLaws.{BeginsWith_unique, HasNoHead-not_begins}
+use Rattle.http_wire.proofs.RequestLaws.{BeginsWith_unique, HasNoHead-not_begins, no_head_at_end}
 use Rattle.http_wire.proofs.RequestLaws.{Requests-append_bad}
 
 -- ---- the requests that were given come first
@@ -18,10 +18,12 @@ after_head rest ended _ end request after (next _ _ found behind requests _ begi
     (requests, ap (λ w. w ∷ requests) same.0, subst (λ w. Requests w ended requests end) same.1 all)
 after_head rest ended _ _ request after (refused _ _ none why) x =
     absurd (HasNoHead-not_begins rest request after none x)
-after_head rest _ _ _ request after (ends _ none sound) x =
-    absurd (HasNoHead-not_begins rest request after none x)
-after_head rest _ _ _ request after (waits _ none sound) x =
-    absurd (HasNoHead-not_begins rest request after none x)
+after_head rest _ _ _ request after (ends _ clean) x =
+    absurd (HasNoHead-not_begins rest request after
+    (no_head_at_end rest true Clean (ends rest clean)) x)
+after_head rest _ _ _ request after (waits _ awaits) x =
+    absurd (HasNoHead-not_begins rest request after
+    (no_head_at_end rest false Unfinished (waits rest awaits)) x)
 
 pub Requests-split : (fed rest : List ℕ) (ended : Bool) (given requests : List Request)
     (end : StreamEnd)
@@ -44,8 +46,8 @@ pub ended_where_clean : (rest : List ℕ) (ended : Bool) (requests : List Reques
 ended_where_clean rest ended _ end (next _ _ request after requests _ begins all) is =
     ended_where_clean after ended requests end all is
 ended_where_clean rest ended _ _ (refused _ _ none why) is = cc
-ended_where_clean rest _ _ _ (ends _ none sound) is = refl
-ended_where_clean rest _ _ _ (waits _ none sound) is = cc
+ended_where_clean rest _ _ _ (ends _ clean) is = refl
+ended_where_clean rest _ _ _ (waits _ awaits) is = cc
 
 pub open_where_unfinished : (rest : List ℕ) (ended : Bool) (requests : List Request)
     (end : StreamEnd)
@@ -53,8 +55,8 @@ pub open_where_unfinished : (rest : List ℕ) (ended : Bool) (requests : List Re
 open_where_unfinished rest ended _ end (next _ _ request after requests _ begins all) is =
     open_where_unfinished after ended requests end all is
 open_where_unfinished rest ended _ _ (refused _ _ none why) is = cc
-open_where_unfinished rest _ _ _ (ends _ none sound) is = cc
-open_where_unfinished rest _ _ _ (waits _ none sound) is = refl
+open_where_unfinished rest _ _ _ (ends _ clean) is = cc
+open_where_unfinished rest _ _ _ (waits _ awaits) is = refl
 
 -- what is refused stays refused when the input ends
 pub bad_at_end : (fed : List ℕ) (before now : Bool) (requests : List Request)
