@@ -1,13 +1,13 @@
 -- Lemmas on the fields that spans cover, and on the commas of a value.
-use Rattle.std.proofs.Common.{◌≡◌, ℕ, ◌+◌, ◌<◌, ◌≤◌, ◌==◌, ◌||◌, eqb, Bool, true, false, cond, List, [], ◌∷◌, zero, suc, length, take, drop, get_or, refl, sym, ap, ap₂, ◌∙◌, arith, eq-eqb}
-use Rattle.std.proofs.lemmas.Bool.{ne_eqb}
+use Rattle.std.proofs.Common.{◌≡◌, ℕ, ◌+◌, ◌<◌, ◌==◌, ◌||◌, Bool, true, false, cond, List, [], ◌∷◌, zero, suc, length, take, drop, get_or, refl, sym, ap, ap₂, ◌∙◌, arith, eq-eqb}
 use Rattle.std.proofs.lemmas.List.{length-map, get_or-map}
 use Rattle.std.proofs.lemmas.List.Sums.{count_by_more_yes, count_by_more_no}
 use Rattle.std.proofs.lemmas.List.Folds.{list_any_more, list_any_at}
-use Rattle.std.specs.List.{list_any}
+use Rattle.std.proofs.lemmas.List.Splits.{slice_split-cons_yes, slice_split-cons_no}
+use Rattle.std.specs.List.{list_any, onto_first}
 use Rattle.httparse.specs.declared.spans.HeaderSpan.{HeaderSpan}
 use Rattle.httparse.specs.Spans.{header_bytes}
-use Rattle.http_wire.specs.Fields.{NameAndValue, is_named, count_named, between_commas, onto_first}
+use Rattle.http_wire.specs.Fields.{NameAndValue, is_named, count_named, between_commas}
 use Rattle.http_wire.specs.Front.{fields_at}
 
 pub no_field : NameAndValue
@@ -65,10 +65,9 @@ pub commas_at : (text : List ℕ) (i : ℕ) → i < length text → get_or text 
     → between_commas text ≡ take i text ∷ between_commas (drop (suc i) text)
 unfolding between_commas
 commas_at [] i inside comma before = absurd (omega arith)
-commas_at (b ∷ bytes) zero inside comma before =
-    ap (λ t. cond t ([] ∷ between_commas bytes) (onto_first b (between_commas bytes))) (eq-eqb b 44 comma)
+commas_at (b ∷ bytes) zero inside comma before = slice_split-cons_yes (λ x. x == 44) b bytes (eq-eqb b 44 comma)
 commas_at (b ∷ bytes) (suc i) inside comma before =
-    ap (λ t. cond t ([] ∷ between_commas bytes) (onto_first b (between_commas bytes))) (before 0 (omega arith))
+    slice_split-cons_no (λ x. x == 44) b bytes (before 0 (omega arith))
     ∙ ap (onto_first b) (commas_at bytes i (omega arith) comma (λ k below. before (suc k) (omega arith)))
 
 -- a text without a comma
@@ -77,5 +76,5 @@ pub no_commas : (text : List ℕ) → ((k : ℕ) → k < length text → (get_or
 unfolding between_commas
 no_commas [] none = refl
 no_commas (b ∷ bytes) none =
-    ap (λ t. cond t ([] ∷ between_commas bytes) (onto_first b (between_commas bytes))) (none 0 (omega arith))
+    slice_split-cons_no (λ x. x == 44) b bytes (none 0 (omega arith))
     ∙ ap (onto_first b) (no_commas bytes (λ k below. none (suc k) (omega arith)))

@@ -1,13 +1,12 @@
 -- What the parser's answer says of the front of a stream.
-use Rattle.std.proofs.Common.{◌≡◌, ℕ, ◌+◌, ◌*◌, ◌<◌, ◌≤◌, List, [], ◌∷◌, ◌++◌, length, take, drop, refl, sym, ap, ap₂, ◌∙◌, subst, arith, length-append, Result, Ok, Err}
+use Rattle.std.proofs.Common.{◌≡◌, ℕ, ◌+◌, ◌*◌, ◌<◌, ◌≤◌, List, [], ◌∷◌, length, take, drop, sym, ap, ap₂, ◌∙◌, subst, arith, length-append, Result, Ok, Err}
 use Rattle.std.specs.Prelude.{All, OnErr}
 use Rattle.std.proofs.lemmas.List.Elements.{All-tail}
 use Rattle.std.specs.List.{flat_map}
 use Rattle.httparse.specs.declared.spans.HeaderSpan.{HeaderSpan}
 use Rattle.httparse.specs.declared.spans.RequestSpans.{RequestSpans}
-use Rattle.httparse.specs.Grammar.{LineEnd, crlf, lf, print_end, Field, IsField, print_field, RequestHead, print_request, ReadsRequest}
+use Rattle.httparse.specs.Grammar.{LineEnd, crlf, lf, print_end, Field, IsField, print_field, RequestHead, print_request}
 use Rattle.httparse.specs.Spans.{IsRequestAt, RequestExceeds}
-use Rattle.http_wire.specs.declared.request.TheConstants.{MAX_HEAD_BYTES}
 use Rattle.http_wire.specs.Fields.{fields_of}
 use Rattle.http_wire.specs.Head.{KeepsFieldRules, KeepsRules, closes, verb_of}
 use Rattle.http_wire.specs.Front.{fields_at, request_at}

@@ -1,3 +1,5 @@
+mod AheadLemmas
+mod ExistenceLemmas
 mod FieldLemmas
 mod FrontLemmas
 mod LineLemmas

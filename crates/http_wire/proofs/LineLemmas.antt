@@ -1,14 +1,12 @@
 -- Lemmas on the lines of a rest, and on rests that no bytes make a head.
-use Rattle.std.proofs.Common.{◌≡◌, ℕ, ◌+◌, ◌<◌, ◌≤◌, ◌==◌, ◌||◌, eqb, Bool, true, false, cond, not, ◌&&◌, List, [], ◌∷◌, ◌++◌, length, drop, get_or, zero, suc, refl, sym, ap, ap₂, ◌∙◌, subst, arith, append_assoc, ⊎_elim}
+use Rattle.std.proofs.Common.{◌≡◌, ℕ, ◌<◌, ◌==◌, ◌||◌, Bool, true, false, cond, not, ◌&&◌, List, [], ◌∷◌, ◌++◌, length, drop, get_or, zero, suc, refl, sym, ap, ap₂, ◌∙◌, subst, arith, append_assoc}
 use Rattle.std.proofs.lemmas.Bool.{false≢true, eqb-true}
 use Rattle.std.proofs.lemmas.List.{append-nil}
 use Rattle.std.proofs.lemmas.List.Folds.{list_any_none, list_any-append}
-use Rattle.std.proofs.lemmas.List.Elements.{All-tail}
-use Rattle.std.specs.Prelude.{All, IsTrue}
-use Rattle.std.specs.List.{list_any, position_or_len}
+use Rattle.std.specs.Prelude.{IsTrue}
+use Rattle.std.specs.List.{list_any}
 use Rattle.httparse.specs.Ascii.{space}
-use Rattle.httparse.specs.Grammar.{LineEnd, crlf, lf, print_blank, is_token_byte, is_uri_byte, AllPass, IsToken, EndsInTarget, ReadsRequest, HasNoRequest, NeverHasRequest, MayBecomeRequest}
-use Rattle.http_wire.specs.Front.{MayGoOn}
+use Rattle.httparse.specs.Grammar.{LineEnd, crlf, lf, print_blank, is_token_byte, is_uri_byte, AllPass, IsToken, EndsInTarget, HasNoRequest, NeverHasRequest}
 use Rattle.http_wire.specs.Requests.{is_other_byte, is_line_feed, from_other_byte, has_line, IsHopeless}
 
 -- ---- the first byte that is neither CR nor LF
@@ -31,10 +29,10 @@ no_other_byte (b ∷ rest) none =
 
 -- ---- what follows doesn't take a line away
 
-past_leading : (b : ℕ) (rest : List ℕ) → is_other_byte b ≡ false → has_line (b ∷ rest) ≡ has_line rest
+pub past_leading : (b : ℕ) (rest : List ℕ) → is_other_byte b ≡ false → has_line (b ∷ rest) ≡ has_line rest
 past_leading b rest other = rw other refl
 
-from_first : (b : ℕ) (rest : List ℕ) → is_other_byte b ≡ true → has_line (b ∷ rest) ≡ list_any is_line_feed (b ∷ rest)
+pub from_first : (b : ℕ) (rest : List ℕ) → is_other_byte b ≡ true → has_line (b ∷ rest) ≡ list_any is_line_feed (b ∷ rest)
 from_first b rest other = rw other refl
 
 pub line-append : (rest more : List ℕ) → has_line rest ≡ true → has_line (rest ++ more) ≡ true
@@ -60,7 +58,7 @@ none_if_never rest never = subst HasNoRequest (append-nil rest) (never [])
 
 -- ---- no line ends inside a target
 
-after_blank : (blank : List LineEnd) (rest : List ℕ) → has_line (print_blank blank ++ rest) ≡ has_line rest
+pub after_blank : (blank : List LineEnd) (rest : List ℕ) → has_line (print_blank blank ++ rest) ≡ has_line rest
 after_blank [] rest = refl
 after_blank (crlf ∷ blank) rest = after_blank blank rest
 after_blank (lf ∷ blank) rest = after_blank blank rest
@@ -92,39 +90,21 @@ no_line_feed : (test : ℕ → Bool) (bytes : List ℕ) → ((b : ℕ) → IsTru
     → AllPass test bytes → list_any is_line_feed bytes ≡ false
 no_line_feed test bytes never all = list_any_none is_line_feed bytes (λ i b inside. never (get_or bytes i b) (all i b inside))
 
+pub token_is_other_byte : (b : ℕ) → IsTrue (is_token_byte b) → is_other_byte b ≡ true
+token_is_other_byte b token =
+    ap₂ (λ x y. not x && not y) (token_is_no_return b token) (token_is_no_line_feed b token)
+
 no_line_after_blank : (blank : List LineEnd) (m : ℕ) (ms target : List ℕ) → IsToken (m ∷ ms)
     → AllPass is_uri_byte target → has_line (print_blank blank ++ ((m ∷ ms) ++ (space ∷ target))) ≡ false
 no_line_after_blank blank m ms target method uri =
     after_blank blank ((m ∷ ms) ++ (space ∷ target))
-    ∙ from_first m (ms ++ (space ∷ target)) first_is_other
+    ∙ from_first m (ms ++ (space ∷ target)) (token_is_other_byte m (method.1 0 m (omega arith)))
     ∙ list_any-append is_line_feed (m ∷ ms) (space ∷ target)
     ∙ ap₂ (λ x y. x || y) (no_line_feed is_token_byte (m ∷ ms) token_is_no_line_feed method.1)
     (no_line_feed is_uri_byte target target_is_no_line_feed uri)
-  where
-    first : IsTrue (is_token_byte m)
-    first = method.1 0 m (omega arith)
 
-    first_is_other : is_other_byte m ≡ true
-    first_is_other = ap₂ (λ x y. not x && not y) (token_is_no_return m first) (token_is_no_line_feed m first)
-
-no_line_in_target : (rest : List ℕ) → EndsInTarget rest → has_line rest ≡ false
+pub no_line_in_target : (rest : List ℕ) → EndsInTarget rest → has_line rest ≡ false
 no_line_in_target rest (blank, [], target, method, uri, is) = absurd (omega (arith, method.0))
 no_line_in_target rest (blank, m ∷ ms, target, method, uri, is) =
     subst (λ w. has_line w ≡ false) (sym (is ∙ append_assoc (print_blank blank) (m ∷ ms) (space ∷ target)))
     (no_line_after_blank blank m ms target method uri)
-
--- ---- what the parser's answer says
-
-pub goes_on_if_partial : (rest : List ℕ) → HasNoRequest rest → MayBecomeRequest rest → MayGoOn rest
-goes_on_if_partial rest none may = record {
-  none = none;
-  not_hopeless = λ hopeless.
-      ⊎_elim (λ grown. hopeless.never grown.0 grown.1 [] grown.2)
-      (λ inside. false≢true (sym (no_line_in_target rest inside) ∙ hopeless.line)) may;
-}
-
-pub goes_on_without_line : (rest : List ℕ) → NeverHasRequest rest → has_line rest ≡ false → MayGoOn rest
-goes_on_without_line rest never no_line = record {
-  none = none_if_never rest never;
-  not_hopeless = λ hopeless. false≢true (sym no_line ∙ hopeless.line);
-}

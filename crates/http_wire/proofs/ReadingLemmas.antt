@@ -1,18 +1,18 @@
--- What the front of a rest says of the rest.
-use Rattle.std.proofs.Common.{◌≡◌, ℕ, ◌+◌, ◌<◌, ◌≤◌, Bool, true, false, List, [], ◌++◌, length, take, drop, min, sym, ap, ◌∙◌, subst, arith, length-take}
+-- What the first bytes of a rest say of the rest.
+use Rattle.std.proofs.Common.{◌≡◌, ℕ, ◌+◌, ◌<◌, ◌≤◌, Bool, true, false, List, [], ◌++◌, length, take, drop, min, refl, sym, ap, ◌∙◌, subst, arith, length-take}
 use Rattle.std.proofs.lemmas.List.{take-append-drop, drop-append-le, take_all, append-nil}
 use Rattle.std.proofs.Common.{inl, inr, ⊎_elim, ◌⊎◌, length-append}
 use Rattle.std.proofs.lemmas.Bool.{cases_lt, false≢true}
 use Rattle.std.specs.Bool.{IsTrue}
-use Rattle.httparse.specs.Grammar.{print_request, ReadsRequest, HasNoRequest}
+use Rattle.httparse.specs.Grammar.{print_request, HasNoRequest}
 use Rattle.http_wire.specs.declared.request.Request.{Request}
 use Rattle.http_wire.specs.declared.heads.Next.{Next}
 use Rattle.http_wire.specs.declared.heads.Next.TheVariants as answers
-use Rattle.http_wire.specs.Requests.{StreamEnd, BeginsWith, StandsHead, HasNoHead, BreaksRule, IsHopeless, IsRefused, breaks_rule, hopeless, too_long, cut_off, Clean, Bad, Unfinished, Requests, refused, ends, waits, HasGiven, one_more, has_other_byte}
-use Rattle.http_wire.specs.Front.{MayGoOn}
+use Rattle.http_wire.specs.Requests.{StreamEnd, BeginsWith, StandsHead, HasNoHead, BreaksRule, IsHopeless, breaks_rule, hopeless, too_long, cut_off, IsUndecided, Clean, Bad, Unfinished, Requests, refused, ends, waits, HasGiven, one_more, has_other_byte}
 use Rattle.http_wire.specs.Reading.{Reading, Answers, AnswersOfAll, answer_of}
+use Rattle.http_wire.proofs.AheadLemmas.{none_if_undecided}
 use Rattle.http_wire.proofs.LineLemmas.{IsHopeless-append}
-use Rattle.http_wire.proofs.StreamLemmas.{HasNoHead-from_hopeless, front_within, BeginsWith-append, BreaksRule-append, HasNoHead-from_broken, HasNoHead-not_begins, Requests_unique, Requests-after_given}
+use Rattle.http_wire.proofs.StreamLemmas.{HasNoHead-from_hopeless, front_within, BeginsWith-append, BreaksRule-append, HasNoHead-from_broken, HasNoHead-not_begins, no_head_at_end, Requests_unique, Requests-after_given}
 
 pub begins_from_front : (rest : List ℕ) (n len : ℕ) (request : Request) → len ≤ length (take n rest)
     → BeginsWith (take n rest) request (drop len (take n rest)) → BeginsWith rest request (drop len rest)
@@ -54,36 +54,43 @@ no_head_in_rest rest n is none =
     none head (drop (length text) (take n rest))
     (reads.0, front_within (take n rest) (drop n rest) text after (take-append-drop n rest ∙ reads.1) inside)
 
-pub bad_when_over : (rest : List ℕ) (n : ℕ) (ended : Bool) → n ≡ min (length rest) 8192 → MayGoOn (take n rest)
+pub bad_when_over : (rest : List ℕ) (n : ℕ) (ended : Bool) → n ≡ min (length rest) 8192 → IsUndecided (take n rest)
     → (8192 ≤ length rest) ⊎ (IsTrue ended × IsTrue (has_other_byte rest)) → Requests rest ended [] Bad
-bad_when_over rest n ended is none over =
-    refused rest ended (no_head_in_rest rest n is none.none) (⊎_elim too_long (λ both. cut_off both.0 both.1) over)
+bad_when_over rest n ended is undecided over =
+    refused rest ended (no_head_in_rest rest n is (none_if_undecided (take n rest) undecided)) (⊎_elim too_long (λ both. cut_off both.0 both.1) over)
 
-not_refused : (rest : List ℕ) (n : ℕ) (ended : Bool) → n ≡ min (length rest) 8192 → MayGoOn (take n rest)
-    → ((8192 ≤ length rest) ⊎ (IsTrue ended × IsTrue (has_other_byte rest)) → ⊥) → IsRefused rest ended → ⊥
-not_refused rest n ended is none sound (breaks_rule broken) =
-    ⊎_elim
-    (λ short.
-    let all : take n rest ≡ rest = take_all n rest (omega arith) in
-    none.none broken.0 broken.1 (subst (λ w. ReadsRequest w broken.0 broken.1) (sym all) broken.2))
-    (λ long. sound (inl long)) (cases_lt (length rest) 8192)
-not_refused rest n ended is none sound (hopeless never) =
-    ⊎_elim (λ short. none.not_hopeless (subst IsHopeless (sym (take_all n rest (omega arith))) never))
-    (λ long. sound (inl long)) (cases_lt (length rest) 8192)
-not_refused rest n ended is none sound (too_long long) = sound (inl long)
-not_refused rest n ended is none sound (cut_off over other) = sound (inr (over, other))
+short_otherwise : (rest : List ℕ) (ended : Bool)
+    → ((8192 ≤ length rest) ⊎ (IsTrue ended × IsTrue (has_other_byte rest)) → ⊥) → length rest < 8192
+short_otherwise rest ended sound =
+    ⊎_elim (λ short. short) (λ long. absurd (sound (inl long))) (cases_lt (length rest) 8192)
 
-pub clean_otherwise : (rest : List ℕ) (n : ℕ) (ended : Bool) → n ≡ min (length rest) 8192 → MayGoOn (take n rest)
+blank_otherwise : (rest : List ℕ)
+    → ((8192 ≤ length rest) ⊎ (IsTrue true × IsTrue (has_other_byte rest)) → ⊥) → has_other_byte rest ≡ false
+blank_otherwise rest sound = by_test (has_other_byte rest) refl
+  where
+    by_test : (other : Bool) → has_other_byte rest ≡ other → has_other_byte rest ≡ false
+    by_test true is = absurd (sound (inr (refl, is)))
+    by_test false is = is
+
+pub clean_otherwise : (rest : List ℕ) (ended : Bool)
     → ((8192 ≤ length rest) ⊎ (IsTrue ended × IsTrue (has_other_byte rest)) → ⊥) → ended ≡ true
     → Requests rest ended [] Clean
-clean_otherwise rest n true is none sound over = ends rest (no_head_in_rest rest n is none.none) (not_refused rest n true is none sound)
-clean_otherwise rest n false is none sound over = absurd (false≢true over)
+clean_otherwise rest true sound over = ends rest (record {
+  short = short_otherwise rest true sound;
+  blank = blank_otherwise rest sound;
+})
+clean_otherwise rest false sound over = absurd (false≢true over)
 
-pub unfinished_otherwise : (rest : List ℕ) (n : ℕ) (ended : Bool) → n ≡ min (length rest) 8192 → MayGoOn (take n rest)
+pub unfinished_otherwise : (rest : List ℕ) (n : ℕ) (ended : Bool) → n ≡ min (length rest) 8192 → IsUndecided (take n rest)
     → ((8192 ≤ length rest) ⊎ (IsTrue ended × IsTrue (has_other_byte rest)) → ⊥) → ended ≡ false
     → Requests rest ended [] Unfinished
-unfinished_otherwise rest n false is none sound open_still = waits rest (no_head_in_rest rest n is none.none) (not_refused rest n false is none sound)
-unfinished_otherwise rest n true is none sound open_still = absurd (false≢true (sym open_still))
+unfinished_otherwise rest n false is undecided sound open_still =
+    let short : length rest < 8192 = short_otherwise rest false sound in
+    waits rest (record {
+      short = short;
+      undecided = subst IsUndecided (take_all n rest (omega arith)) undecided;
+    })
+unfinished_otherwise rest n true is undecided sound open_still = absurd (false≢true (sym open_still))
 
 -- ---- all that was fed
 
@@ -105,8 +112,7 @@ answers_of_all old answers.Clean remaining fed given answer before = with_end ol
 answers_of_all old answers.Bad remaining fed given answer before = with_end old remaining fed given Bad answer before
 
 pub short_while_unfinished : (rest : List ℕ) (ended : Bool) → Requests rest ended [] Unfinished → length rest < 8192
-short_while_unfinished rest _ (waits _ none sound) =
-    ⊎_elim (λ short. short) (λ long. absurd (sound (too_long long))) (cases_lt (length rest) 8192)
+short_while_unfinished rest _ (waits _ awaits) = awaits.short
 
 pub short_after_more : (old : Reading) (next : Next) (remaining : List ℕ) → Answers old next remaining → next ≡ answers.More
     → length remaining < 8192
@@ -115,11 +121,6 @@ short_after_more old next remaining answer is =
     subst (λ w. length w < 8192) (sym more.0) (short_while_unfinished old.rest old.ended more.1)
 
 -- ---- the answer is the only one
-
-pub no_head_at_end : (rest : List ℕ) (ended : Bool) (end : StreamEnd) → Requests rest ended [] end → HasNoHead rest
-no_head_at_end rest _ _ (refused _ _ none why) = none
-no_head_at_end rest _ _ (ends _ none sound) = none
-no_head_at_end rest _ _ (waits _ none sound) = none
 
 pub answer_is : (old : Reading) (next : Next) (remaining : List ℕ) (end : StreamEnd) → Answers old next remaining
     → Requests old.rest old.ended [] end → next ≡ answer_of end

@@ -7,6 +7,7 @@ use Rattle.httparse.specs.Grammar.{print_request}
 use Rattle.httparse.proofs.GrammarLemmas.{request_unique, request_prefix_free, ReadsRequest-append}
 use Rattle.http_wire.specs.declared.request.Request.{Request}
 use Rattle.http_wire.specs.Head.{KeepsRules, request_of}
+use Rattle.http_wire.proofs.AheadLemmas.{HasNoHead-from_awaits, HasNoHead-from_clean, sound_if_awaits, sound_if_clean}
 use Rattle.http_wire.proofs.LineLemmas.{IsHopeless-append, none_if_never}
 use Rattle.http_wire.specs.Requests.{BeginsWith, HasNoHead, BreaksRule, IsHopeless, IsRefused, breaks_rule, hopeless, too_long, cut_off, StreamEnd, Bad, Requests, next, refused, ends, waits, HasGiven, none_yet, one_more, IsHead}
 
@@ -88,23 +89,28 @@ Requests_unique stream ended these those end other (next _ _ p a ps _ x r) (next
     (cc (same.0, rest.0), rest.1)
 Requests_unique stream ended these those end other (next _ _ p a ps _ x r) (refused _ _ none why) =
     absurd (HasNoHead-not_begins stream p a none x)
-Requests_unique stream ended these those end other (next _ _ p a ps _ x r) (ends _ none sound) =
-    absurd (HasNoHead-not_begins stream p a none x)
-Requests_unique stream ended these those end other (next _ _ p a ps _ x r) (waits _ none sound) =
-    absurd (HasNoHead-not_begins stream p a none x)
+Requests_unique stream ended these those end other (next _ _ p a ps _ x r) (ends _ clean) =
+    absurd (HasNoHead-not_begins stream p a (HasNoHead-from_clean stream clean) x)
+Requests_unique stream ended these those end other (next _ _ p a ps _ x r) (waits _ awaits) =
+    absurd (HasNoHead-not_begins stream p a (HasNoHead-from_awaits stream awaits) x)
 Requests_unique stream ended these those end other (refused _ _ none why) (next _ _ q b qs _ y s) =
     absurd (HasNoHead-not_begins stream q b none y)
 Requests_unique stream ended these those end other (refused _ _ none why) (refused _ _ none' why') = (refl, refl)
-Requests_unique stream ended these those end other (refused _ _ none why) (ends _ none' sound) = absurd (sound why)
-Requests_unique stream ended these those end other (refused _ _ none why) (waits _ none' sound) = absurd (sound why)
-Requests_unique stream ended these those end other (ends _ none sound) (next _ _ q b qs _ y s) =
-    absurd (HasNoHead-not_begins stream q b none y)
-Requests_unique stream ended these those end other (ends _ none sound) (refused _ _ none' why) = absurd (sound why)
-Requests_unique stream ended these those end other (ends _ none sound) (ends _ none' sound') = (refl, refl)
-Requests_unique stream ended these those end other (waits _ none sound) (next _ _ q b qs _ y s) =
-    absurd (HasNoHead-not_begins stream q b none y)
-Requests_unique stream ended these those end other (waits _ none sound) (refused _ _ none' why) = absurd (sound why)
-Requests_unique stream ended these those end other (waits _ none sound) (waits _ none' sound') = (refl, refl)
+Requests_unique stream ended these those end other (refused _ _ none why) (ends _ clean) = absurd (sound_if_clean stream clean why)
+Requests_unique stream ended these those end other (refused _ _ none why) (waits _ awaits) = absurd (sound_if_awaits stream awaits why)
+Requests_unique stream ended these those end other (ends _ clean) (next _ _ q b qs _ y s) =
+    absurd (HasNoHead-not_begins stream q b (HasNoHead-from_clean stream clean) y)
+Requests_unique stream ended these those end other (ends _ clean) (refused _ _ none why) = absurd (sound_if_clean stream clean why)
+Requests_unique stream ended these those end other (ends _ clean) (ends _ clean') = (refl, refl)
+Requests_unique stream ended these those end other (waits _ awaits) (next _ _ q b qs _ y s) =
+    absurd (HasNoHead-not_begins stream q b (HasNoHead-from_awaits stream awaits) y)
+Requests_unique stream ended these those end other (waits _ awaits) (refused _ _ none why) = absurd (sound_if_awaits stream awaits why)
+Requests_unique stream ended these those end other (waits _ awaits) (waits _ awaits') = (refl, refl)
+
+pub no_head_at_end : (rest : List ℕ) (ended : Bool) (end : StreamEnd) → Requests rest ended [] end → HasNoHead rest
+no_head_at_end rest _ _ (refused _ _ none why) = none
+no_head_at_end rest _ _ (ends _ clean) = HasNoHead-from_clean rest clean
+no_head_at_end rest _ _ (waits _ awaits) = HasNoHead-from_awaits rest awaits
 
 -- ---- what was given
 

@@ -1,7 +1,6 @@
 -- Cited by public clauses. What the fields of a request's head say of the connection and of a body.
-use Rattle.std.specs.Prelude.{ℕ, Bool, not, ◌&&◌, ◌==◌, List, [], ◌∷◌}
-use Rattle.std.specs.Prelude.{map, count_by, codes, if◌then◌else◌}
-use Rattle.std.specs.List.{list_any}
+use Rattle.std.specs.Prelude.{ℕ, Bool, not, ◌&&◌, ◌==◌, List, map, count_by, codes}
+use Rattle.std.specs.List.{list_any, slice_split}
 use Rattle.std.specs.Str.{bytes_eq, str_to_ascii_lowercase}
 use Rattle.httparse.specs.Ascii.{comma}
 use Rattle.httparse.specs.Grammar.{RequestHead, trim_ows}
@@ -29,16 +28,9 @@ abbrev pub announces_body : NameAndValue → Bool
 announces_body field =
     is_named (codes "content-length") field && not (bytes_eq field.1 (codes "0"))
 
--- the byte stands before the first of these texts
-abbrev pub onto_first : ℕ → List (List ℕ) → List (List ℕ)
-onto_first b [] = (b ∷ []) ∷ []
-onto_first b (text ∷ texts) = (b ∷ text) ∷ texts
-
--- what stands between the commas of a value (RFC 9110, section 5.6.1)
+-- the parts of a value between its commas (RFC 9110, section 5.6.1)
 unfoldable pub between_commas : List ℕ → List (List ℕ)
-between_commas [] = [] ∷ []
-between_commas (b ∷ bytes) =
-    if b == comma then [] ∷ between_commas bytes else onto_first b (between_commas bytes)
+between_commas value = slice_split (λ b. b == comma) value
 
 -- the text is the option `close`, in any case, with or without white space around it
 abbrev pub is_close : List ℕ → Bool

@@ -1,15 +1,14 @@
--- Cited by private clauses and proofs. What the parser's offsets say of the front of a stream.
+-- Cited by private clauses and proofs. What the parser's offsets say of a stream's first bytes.
 use Rattle.std.specs.Prelude.{ℕ, ◌≤◌, List, length, drop, map}
 use Rattle.httparse.specs.declared.spans.HeaderSpan.{HeaderSpan}
 use Rattle.httparse.specs.declared.spans.RequestSpans.{RequestSpans}
-use Rattle.httparse.specs.Grammar.{HasNoRequest}
 use Rattle.httparse.specs.Spans.{span_bytes, header_bytes}
 use Rattle.http_wire.specs.declared.front.Front.{Front}
 use Rattle.http_wire.specs.declared.front.Front.TheVariants as fronts
 use Rattle.http_wire.specs.declared.request.Request.{Request}
 use Rattle.http_wire.specs.Fields.{NameAndValue}
 use Rattle.http_wire.specs.Head.{closes, verb_of}
-use Rattle.http_wire.specs.Requests.{BeginsWith, BreaksRule, IsHopeless}
+use Rattle.http_wire.specs.Requests.{BeginsWith, BreaksRule, IsHopeless, IsUndecided}
 
 -- the fields that the spans cover
 abbrev pub fields_at : List ℕ → List HeaderSpan → List NameAndValue
@@ -23,15 +22,10 @@ request_at buffer head spans = record {
   close = closes head.version (fields_at buffer spans);
 }
 
--- no head stands here, and more bytes may make one, or no line ended yet
-pub record MayGoOn (bytes : List ℕ) : Type 0 where
-  pub none : HasNoRequest bytes
-  pub not_hopeless : ¬ (IsHopeless bytes)
-
 -- what the result says of the bytes
 abbrev pub IsFront : List ℕ → Front → Type 0
 IsFront bytes (fronts.Head request len) =
     (len ≤ length bytes) × BeginsWith bytes request (drop len bytes)
 IsFront bytes fronts.Broken = BreaksRule bytes
 IsFront bytes fronts.Hopeless = IsHopeless bytes
-IsFront bytes fronts.NoHead = MayGoOn bytes
+IsFront bytes fronts.NoHead = IsUndecided bytes

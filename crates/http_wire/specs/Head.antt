@@ -5,16 +5,23 @@ use Rattle.std.specs.Prelude.{List, length, codes, if◌then◌else◌}
 use Rattle.std.specs.List.{list_any}
 use Rattle.std.specs.Str.{bytes_eq}
 use Rattle.httparse.specs.Grammar.{RequestHead, print_request}
-use Rattle.http_wire.specs.declared.request.TheConstants.{MAX_HEAD_BYTES, MAX_FIELDS}
 use Rattle.http_wire.specs.declared.request.Verb.{Verb}
 use Rattle.http_wire.specs.declared.request.Verb.TheVariants as verbs
 use Rattle.http_wire.specs.declared.request.Request.{Request}
 use Rattle.http_wire.specs.Fields.{NameAndValue, fields_of, count_named}
 use Rattle.http_wire.specs.Fields.{announces_body, asks_close}
 
+-- the most bytes of a head, with the empty lines before it
+abbrev pub head_limit : ℕ
+head_limit = 8192
+
+-- the most fields of a head
+abbrev pub field_limit : ℕ
+field_limit = 64
+
 -- The rules on the version 1.minor and the fields of a head.
 pub record KeepsFieldRules (minor : ℕ) (fields : List NameAndValue) : Type 0 where
-  pub few : length fields ≤ MAX_FIELDS
+  pub few : length fields ≤ field_limit
   -- exactly one Host, and with version 1.0 at most one (RFC 9112, section 3.2)
   pub one_host : count_named (codes "host") fields ≤ 1
   pub host : minor ≡ 1 → count_named (codes "host") fields ≡ 1
@@ -24,7 +31,7 @@ pub record KeepsFieldRules (minor : ℕ) (fields : List NameAndValue) : Type 0 w
 
 -- The rules on a head. The empty lines before it count.
 pub record KeepsRules (head : RequestHead) : Type 0 where
-  pub size : length (print_request head) ≤ MAX_HEAD_BYTES
+  pub size : length (print_request head) ≤ head_limit
   pub rules : KeepsFieldRules head.minor (fields_of head)
 
 -- the verb that a method spells (RFC 9110, section 9.1); methods are compared with their case

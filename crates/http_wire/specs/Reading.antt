@@ -6,6 +6,10 @@ use Rattle.http_wire.specs.declared.heads.Next.TheVariants as answers
 use Rattle.http_wire.specs.Requests.{BeginsWith, Requests, HasGiven}
 use Rattle.http_wire.specs.Requests.{StreamEnd, Clean, Bad, Unfinished}
 
+-- the most bytes that a reader holds
+abbrev pub rest_limit : ℕ
+rest_limit = 16384
+
 -- the bytes fed that stand in no head given, and whether the input ended
 pub record Reading : Type 0 where
   pub rest : List ℕ

@@ -1,13 +1,12 @@
 -- Cited by public clauses. The requests in a stream of bytes (RFC 9112, section 2.2), by cases on
 -- what remains of it.
-use Rattle.std.specs.Prelude.{◌≡◌, ℕ, ◌≤◌, Bool, true, false, ◌&&◌, not, ◌==◌, IsTrue}
+use Rattle.std.specs.Prelude.{◌≡◌, ℕ, ◌<◌, ◌≤◌, ◌⊎◌, Bool, true, false, ◌&&◌, not, ◌==◌, IsTrue}
 use Rattle.std.specs.Prelude.{List, [], ◌∷◌, ◌++◌, length, if◌then◌else◌}
 use Rattle.std.specs.List.{list_any}
 use Rattle.httparse.specs.Ascii.{carriage_return, line_feed}
 use Rattle.httparse.specs.Grammar.{RequestHead, ReadsRequest, NeverHasRequest}
-use Rattle.http_wire.specs.declared.request.TheConstants.{MAX_HEAD_BYTES}
 use Rattle.http_wire.specs.declared.request.Request.{Request}
-use Rattle.http_wire.specs.Head.{KeepsRules, request_of}
+use Rattle.http_wire.specs.Head.{KeepsRules, head_limit, request_of}
 
 -- a prefix of the rest is a head that keeps the rules, the request is its, and after follows it
 pub record BeginsWith (rest : List ℕ) (request : Request) (after : List ℕ) : Type 0 where
@@ -59,8 +58,27 @@ pub record IsHopeless (rest : List ℕ) : Type 0 where
 pub data IsRefused (rest : List ℕ) (ended : Bool) : Type 0 where
   breaks_rule : BreaksRule rest → IsRefused rest ended
   hopeless : IsHopeless rest → IsRefused rest ended
-  too_long : MAX_HEAD_BYTES ≤ length rest → IsRefused rest ended
+  too_long : head_limit ≤ length rest → IsRefused rest ended
   cut_off : IsTrue ended → IsTrue (has_other_byte rest) → IsRefused rest ended
+
+-- some bytes follow with which the rest is a head of the grammar
+abbrev pub CanBecomeHead : List ℕ → Type 0
+CanBecomeHead rest =
+    (b : ℕ) × (more : List ℕ) × (head : RequestHead) × ReadsRequest (rest ++ b ∷ more) head []
+
+-- no line ended in the rest, or it can become a head
+abbrev pub IsUndecided : List ℕ → Type 0
+IsUndecided rest = (has_line rest ≡ false) ⊎ CanBecomeHead rest
+
+-- the rest is shorter than the longest head, and a head may still come
+pub record AwaitsHead (rest : List ℕ) : Type 0 where
+  pub short : length rest < head_limit
+  pub undecided : IsUndecided rest
+
+-- the rest is shorter than the longest head, and has no byte but CR and LF
+pub record IsCleanEnd (rest : List ℕ) : Type 0 where
+  pub short : length rest < head_limit
+  pub blank : has_other_byte rest ≡ false
 
 -- how the requests of a stream end: at a clean end of the input, at a rest that is refused, or at
 -- one that isn't yet
@@ -75,9 +93,8 @@ pub data Requests : List ℕ → Bool → List Request → StreamEnd → Type 0 
       → Requests rest ended (request ∷ requests) end
   refused : (rest : List ℕ) (ended : Bool) → HasNoHead rest → IsRefused rest ended
       → Requests rest ended [] Bad
-  ends : (rest : List ℕ) → HasNoHead rest → ¬ (IsRefused rest true) → Requests rest true [] Clean
-  waits : (rest : List ℕ) → HasNoHead rest → ¬ (IsRefused rest false)
-      → Requests rest false [] Unfinished
+  ends : (rest : List ℕ) → IsCleanEnd rest → Requests rest true [] Clean
+  waits : (rest : List ℕ) → AwaitsHead rest → Requests rest false [] Unfinished
 
 -- of what was fed, these requests were given, and the rest stands in no head given
 pub data HasGiven (fed : List ℕ) : List Request → List ℕ → Type 0 where

@@ -4,8 +4,7 @@ ghost use Rattle.std.specs.Prelude.{◌≡◌, ◌≤◌, length, take, All, IsT
 ghost use Rattle.std.specs.List.{list_any};
 ghost use Rattle.httparse.specs.Spans.{IsHeaderWithin, IsWithin, span_bytes};
 ghost use Rattle.http_wire.specs.declared.front.TheConstants.{SPAN_COUNT};
-ghost use Rattle.http_wire.specs.declared.request.TheConstants.{MAX_HEAD_BYTES};
-ghost use Rattle.http_wire.specs.Head.{verb_of};
+ghost use Rattle.http_wire.specs.Head.{head_limit, verb_of};
 ghost use Rattle.http_wire.specs.Front.{request_at, IsFront};
 ghost use Rattle.http_wire.specs.Requests.{StandsHead, is_line_feed, has_line};
 
@@ -86,7 +85,7 @@ fn has_line(bytes: &[u8]) -> bool
 /// Reads the front of a stream. `NoMemory` comes only where a head that keeps the rules stands
 /// there.
 pub fn read_front(alloc: Global, bytes: &[u8], spans: &mut [HeaderSpan]) -> Mem<Front>
-    requires short { length bytes.now ≤ MAX_HEAD_BYTES }
+    requires short { length bytes.now ≤ head_limit }
     requires room { length spans.old ≡ SPAN_COUNT }
     ensures front { IfOk result (IsFront bytes.now) }
     ensures memory { OnErr result (StandsHead bytes.now) }

@@ -4,10 +4,9 @@ ghost use Rattle.std.specs.Prelude.{◌≡◌, ℕ, ◌+◌, ◌-◌, ◌<◌, �
 ghost use Rattle.std.specs.Prelude.{List, [], ◌++◌, length, take, drop, min};
 ghost use Rattle.std.specs.Prelude.{vec_len, vec_capacity, IfOk, OnErr, OnOk};
 ghost use Rattle.http_wire.specs.declared.front.TheConstants.{SPAN_COUNT};
-ghost use Rattle.http_wire.specs.declared.heads.TheConstants.{MAX_REST_BYTES};
 ghost use Rattle.http_wire.specs.declared.request.Request.{Request};
-ghost use Rattle.http_wire.specs.declared.request.TheConstants.{MAX_HEAD_BYTES};
-ghost use Rattle.http_wire.specs.Reading.{Answers, AnswersOfAll, answer_of, reading};
+ghost use Rattle.http_wire.specs.Head.{head_limit};
+ghost use Rattle.http_wire.specs.Reading.{Answers, AnswersOfAll, answer_of, reading, rest_limit};
 ghost use Rattle.http_wire.specs.Requests.{HasGiven, Requests, StandsHead, StreamEnd};
 ghost use Rattle.http_wire.specs.Requests.{has_other_byte};
 
@@ -52,15 +51,15 @@ pub struct Heads {
 impl Model for Heads {
     ghost use Rattle.std.specs.Prelude.{◌≡◌, ◌+◌, ◌≤◌, drop, vec_len, vec_capacity};
     ghost use Rattle.http_wire.specs.declared.front.TheConstants.{SPAN_COUNT};
-    ghost use Rattle.http_wire.specs.declared.heads.TheConstants.{MAX_REST_BYTES, BUFFER_BYTES};
-    ghost use Rattle.http_wire.specs.Reading.{Reading};
+    ghost use Rattle.http_wire.specs.declared.heads.TheConstants.{BUFFER_BYTES};
+    ghost use Rattle.http_wire.specs.Reading.{Reading, rest_limit};
 
     ghost Value = { Reading };
 
     ghost view = { λ it. record { rest = drop it.start it.bytes.items; ended = it.ended } };
 
     ghost invariant = { λ it. (it.start ≤ vec_len it.bytes)
-        × (vec_len it.bytes ≤ it.start + MAX_REST_BYTES)
+        × (vec_len it.bytes ≤ it.start + rest_limit)
         × (BUFFER_BYTES ≤ vec_capacity it.bytes)
         × (vec_len it.spans ≡ SPAN_COUNT) };
 }
@@ -85,7 +84,7 @@ fn has_other_byte(bytes: &[u8]) -> bool
 
 /// Whether a rest that begins with no head is refused: it is too long, or the input ended in it.
 fn is_over(rest: &[u8], ended: bool) -> bool
-    ensures { IsTrue result ↔ ((MAX_HEAD_BYTES ≤ length rest.now)
+    ensures { IsTrue result ↔ ((head_limit ≤ length rest.now)
         ⊎ (IsTrue ended × IsTrue (has_other_byte rest.now))) }
 {
     rest.len() >= MAX_HEAD_BYTES || (ended && has_other_byte(rest))
@@ -136,10 +135,10 @@ impl Heads {
     /// memory.
     pub fn feed(&mut self, piece: &[u8]) -> usize
         requires { self.old.ended ≡ false }
-        ensures taken { result ≡ min (length piece.now) (MAX_REST_BYTES - length self.old.rest) }
+        ensures taken { result ≡ min (length piece.now) (rest_limit - length self.old.rest) }
         ensures rest { self.new.rest ≡ self.old.rest ++ take result piece.now }
         ensures ended { self.new.ended ≡ self.old.ended }
-        ensures room { length self.new.rest ≤ MAX_REST_BYTES }
+        ensures room { length self.new.rest ≤ rest_limit }
 
         // Of all that was fed, the requests given stay those that were given.
         ensures given { (fed : List ℕ) (given : List Request) → HasGiven fed given self.old.rest
@@ -155,7 +154,7 @@ impl Heads {
         taken
     }
 
-    /// Tells that the input ended. It takes no memory.
+    /// Records that the input ended. It takes no memory.
     pub fn end(&mut self)
         ensures rest { self.new.rest ≡ self.old.rest }
         ensures ended { self.new.ended ≡ true }
@@ -179,7 +178,7 @@ impl Heads {
         ensures stream { (fed : List ℕ) (given : List Request) → HasGiven fed given self.old.rest
             → IfOk result (λ next. AnswersOfAll fed given self.old.ended next self.new.rest) }
         ensures ended { self.new.ended ≡ self.old.ended }
-        ensures room { result ≡ Ok Next.More → length self.new.rest < MAX_HEAD_BYTES }
+        ensures room { result ≡ Ok Next.More → length self.new.rest < head_limit }
         ensures unchanged { OnErr result (self.new ≡ self.old) }
         ensures memory { OnErr result (StandsHead self.old.rest) }
     {

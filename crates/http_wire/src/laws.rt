@@ -9,7 +9,14 @@ pub fn heads_are_prefix_free()
     ensures { (text more : List ℕ) → IsHead text → IsHead (text ++ more) → more ≡ [] }
 {}
 
-/// A stream has one list of requests, and one end.
+/// No stream is without a list of requests and an end. The double negation stays, since no
+/// definition decides whether a rest can become a head.
+pub fn each_stream_has_requests()
+    ensures { (stream : List ℕ) (ended : Bool)
+        → ¬ ((requests : List Request) (end : StreamEnd) → ¬ (Requests stream ended requests end)) }
+{}
+
+/// A stream has at most one list of requests, and one end.
 pub fn requests_are_unique()
     ensures { (stream : List ℕ) (ended : Bool) (these those : List Request) (end other : StreamEnd)
         → Requests stream ended these end → Requests stream ended those other

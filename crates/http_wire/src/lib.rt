@@ -23,7 +23,7 @@ mod request;
 
 pub use heads::{Heads, MAX_REST_BYTES, Next};
 pub use laws::{
-    bad_streams_stay_bad, heads_are_prefix_free, requests_are_unique,
+    bad_streams_stay_bad, each_stream_has_requests, heads_are_prefix_free, requests_are_unique,
     requests_do_not_depend_on_the_cut,
 };
 pub use reply::{Code, bad_reply, reply_head};

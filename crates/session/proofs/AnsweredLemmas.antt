@@ -1,5 +1,7 @@
 -- What a session wrote, by the requests of its stream.
-use Rattle.std.proofs.Common.{◌≡◌, ℕ, ◌+◌, ◌-◌, ◌<◌, ◌≤◌, ◌⊎◌, Bool, true, false, cond, ◌||◌, ◌&&◌, not, eqb, ltb, List, [], ◌∷◌, ◌++◌, length, take, refl, sym, ap, ◌∙◌, arith, append_assoc, append-nil, length-append, inl, inr, ⊎_elim}
+use Rattle.std.proofs.Common.{◌≡◌, ℕ, ◌+◌, ◌-◌, ◌<◌, ◌≤◌, ◌⊎◌, Bool, true, false, cond, ◌||◌, ◌&&◌}
+use Rattle.std.proofs.Common.{not, eqb, ltb, List, [], ◌∷◌, ◌++◌, length, take, refl, sym, ap, ◌∙◌}
+use Rattle.std.proofs.Common.{arith, append_assoc, append-nil, length-append, inl, inr, ⊎_elim}
 use Rattle.std.specs.List.{concat}
 use Rattle.std.proofs.lemmas.Bool.{false≢true}
 use Rattle.std.proofs.lemmas.Bool.Decides.{nat_tests}
@@ -10,16 +12,21 @@ use Rattle.http_wire.specs.Requests.{StreamEnd}
 use Rattle.publication.specs.View.{StartsWith}
 use Rattle.session.specs.declared.session_end.SessionEnd.{SessionEnd}
 use Rattle.session.specs.declared.session_end.SessionEnd.TheVariants as ends
-use Rattle.session.specs.Text.{Replier, is_last, answerable_from, answerable, replies_from, some_closes, is_bad, refusal, session_text, first_replies, end_at, end_of}
+use Rattle.session.specs.Text.{Replier, is_last, answerable, some_closes, is_bad, refusal}
+use Rattle.session.specs.Text.{session_text, first_replies, end_at, end_of}
 use Rattle.session.specs.Session.{IsAnswered}
-use Rattle.session.proofs.TextLemmas.{replies-front, answerable-open, answerable-last, answerable-full}
+use Rattle.session.proofs.Counted.{answerable_from, answerable-counted, replies_from}
+use Rattle.session.proofs.Counted.{replies-counted}
+use Rattle.session.proofs.TextLemmas.{replies-front, answerable-open, answerable-last}
+use Rattle.session.proofs.TextLemmas.{answerable-full}
 
 -- ---- the requests that are answered begin with those that were given
 
 pub answerable-begins : (given more : List Request) → some_closes given ≡ false → length given
     < 1000
     → answerable (given ++ more) ≡ given ++ answerable_from (1 + length given) more
-answerable-begins given more none room = answerable-open 1 given more none (omega arith)
+answerable-begins given more none room =
+    sym (answerable-counted (given ++ more)) ∙ answerable-open 1 given more none (omega arith)
 
 pub answerable-next : (given : List Request) (request : Request) (more : List Request)
     → some_closes given ≡ false → length given < 1000
@@ -48,8 +55,9 @@ answerable-all given none room =
 pub answerable-limit : (given more : List Request) → some_closes given ≡ false → length given ≡ 1000
     → answerable (given ++ more) ≡ given
 answerable-limit [] more none room = absurd (omega arith)
-answerable-limit (request ∷ given) more none room = answerable-full 1 request given more none
-    (omega arith)
+answerable-limit (request ∷ given) more none room =
+    sym (answerable-counted ((request ∷ given) ++ more))
+    ∙ answerable-full 1 request given more none (omega arith)
 
 pub some_closes-append : (given more : List Request) → some_closes (given ++ more)
     ≡ (some_closes given || some_closes more)
@@ -132,19 +140,23 @@ end_of-full requests end none many =
 
 module _ {E : Type 0} (reply : Replier E) (history : List E) (requests : List Request)
     (end : StreamEnd) (front tail : List Request) (entries written : List ℕ) where
-  first_replies-front : (count : ℕ) → answerable requests ≡ front ++ tail → length entries
+  pub first_replies-front : (count : ℕ) → answerable requests ≡ front ++ tail → length entries
       ≤ length front
       → first_replies count reply history requests entries ≡ concat
       (take count (replies_from reply history 1 front entries))
   first_replies-front count begins short =
-      ap (λ w. concat (take count (replies_from reply history 1 w entries))) begins
+      ap (λ w. concat (take count w))
+      (sym (replies-counted reply history (answerable requests) entries))
+      ∙ ap (λ w. concat (take count (replies_from reply history 1 w entries))) begins
       ∙ ap (λ w. concat (take count w)) (replies-front reply history 1 front tail entries short)
 
   session_text-front : answerable requests ≡ front ++ tail → length entries ≤ length front
       → session_text reply history requests end entries ≡ concat
       (replies_from reply history 1 front entries) ++ refusal requests end (length entries)
   session_text-front begins short =
-      ap (λ w. concat (replies_from reply history 1 w entries) ++ refusal requests end
+      ap (λ w. concat w ++ refusal requests end (length entries))
+      (sym (replies-counted reply history (answerable requests) entries))
+      ∙ ap (λ w. concat (replies_from reply history 1 w entries) ++ refusal requests end
       (length entries)) begins
       ∙ ap (λ w. concat w ++ refusal requests end (length entries))
       (replies-front reply history 1 front tail entries short)
@@ -153,19 +165,19 @@ module _ {E : Type 0} (reply : Replier E) (history : List E) (requests : List Re
       → length entries ≤ length (answerable requests)
   within_front begins short = rw begins (simp length-append (omega arith))
 
-  pub answered_starved : answerable requests ≡ front ++ tail → length entries ≤ length front
+  pub answered_no_memory : answerable requests ≡ front ++ tail → length entries ≤ length front
       → (written ≡ concat (take (length entries) (replies_from reply history 1 front entries)))
       ⊎ (written ≡ concat (take (length entries - 1)
       (replies_from reply history 1 front entries)))
       → IsAnswered reply history requests end entries written ends.NoMemory
-  answered_starved begins short is = record {
+  answered_no_memory begins short is = record {
     within = within_front begins short;
     each = λ whole. absurd (whole.1 refl);
     text = λ whole. absurd (whole.1 refl);
     exact = λ whole. absurd (whole.1 refl);
     begun = λ e. cc;
     whole_replies = λ e. cc;
-    starved = λ _. ⊎_elim
+    no_memory = λ _. ⊎_elim
         (λ all. inl (all ∙ sym (first_replies-front (length entries) begins short)))
         (λ most. inr (most ∙ sym (first_replies-front (length entries - 1) begins short))) is;
   }
@@ -187,7 +199,7 @@ module _ {E : Type 0} (reply : Replier E) (history : List E) (requests : List Re
       whole_replies.1 ∙ ap (λ w. w ++ whole_replies.0)
           (sym (first_replies-front (length entries - 1) begins short)),
     );
-    starved = λ e. cc;
+    no_memory = λ e. cc;
   }
 
   pub answered_whole : (result : SessionEnd) → answerable requests ≡ front → length entries
@@ -200,9 +212,11 @@ module _ {E : Type 0} (reply : Replier E) (history : List E) (requests : List Re
     within = rw all (omega arith);
     each = λ _. same ∙ ap length (sym all);
     text = λ _. is ∙ ap (λ w. concat (replies_from reply history 1 w entries) ++ refusal requests
-        end (length entries)) (sym all);
+        end (length entries)) (sym all)
+        ∙ ap (λ w. concat w ++ refusal requests end (length entries))
+        (replies-counted reply history (answerable requests) entries);
     exact = λ _. exact;
     begun = λ e. absurd (no_fault e);
     whole_replies = λ e. absurd (no_fault e);
-    starved = λ e. absurd (memory e);
+    no_memory = λ e. absurd (memory e);
   }

@@ -1,47 +1,16 @@
 -- The text of a connection, one request at a time.
-use Rattle.std.proofs.Common.{◌≡◌, ℕ, zero, suc, ◌+◌, ◌<◌, ◌≤◌, Bool, true, false, cond, ◌||◌, eqb, List, [], ◌∷◌, ◌++◌, length, take, drop, Option, refl, sym, ap, ◌∙◌, arith, append_assoc, append-nil, eq-eqb, ◌==◌}
-use Rattle.std.specs.Prelude.{IsSome, All, slice_get, if◌then◌else◌}
+use Rattle.std.proofs.Common.{◌≡◌, ℕ, zero, suc, ◌+◌, ◌<◌, ◌≤◌, Bool, true, false, cond, ◌||◌, eqb}
+use Rattle.std.proofs.Common.{List, [], ◌∷◌, ◌++◌, length, take, drop, Option, refl, sym, ap, ◌∙◌}
+use Rattle.std.proofs.Common.{arith, append_assoc, append-nil}
+use Rattle.std.specs.Prelude.{IsSome, All, slice_get}
 use Rattle.std.specs.Option.{option_map_or}
 use Rattle.std.specs.List.{concat}
-use Rattle.std.proofs.lemmas.Bool.{false≢true, ne_eqb}
+use Rattle.std.proofs.lemmas.Bool.{false≢true}
 use Rattle.std.proofs.lemmas.Bool.Decides.{nat_tests}
 use Rattle.std.proofs.lemmas.List.Elements.{All-head, All-tail}
 use Rattle.http_wire.specs.declared.request.Request.{Request}
-use Rattle.session.specs.Text.{Replier, is_last, answerable, answerable_from, up_to_close, edition_at, reply_by, replies_from, some_closes}
-
--- ---- the requests that are answered
-
--- from the request with this number on there is room for so many and one more
-answerable_from-take : (number room : ℕ) (requests : List Request) → number + room ≡ 1000
-    → answerable_from number requests ≡ take (suc room) (up_to_close requests)
-answerable_from-take number room [] fits = refl
-answerable_from-take number zero (request ∷ requests) fits = ap (λ rest. request ∷ rest)
-    (by request.close)
-  where
-    full : (number == 1000) ≡ true
-    full = eq-eqb number 1000 (omega arith)
-
-    by : (close : Bool) → (if close || number == 1000 then [] else answerable_from
-        (number + 1) requests) ≡ []
-    by true = refl
-    by false = rw full refl
-answerable_from-take number (suc room) (request ∷ requests) fits =
-    ap (λ rest. request ∷ rest) (by request.close (answerable_from-take (number + 1) room requests
-    (omega arith)))
-  where
-    more : (number == 1000) ≡ false
-    more = ne_eqb number 1000 (λ is. omega arith)
-
-    by : (close : Bool) → answerable_from (number + 1) requests ≡ take (suc room)
-        (up_to_close requests)
-        → (if close || number == 1000 then [] else answerable_from (number + 1) requests)
-        ≡ take (suc room) (if close then [] else up_to_close requests)
-    by true later = refl
-    by false later = rw more later
-
-pub answerable-take : (requests : List Request) → answerable requests ≡ take 1000
-    (up_to_close requests)
-answerable-take requests = answerable_from-take 1 999 requests (omega arith)
+use Rattle.session.specs.Text.{Replier, is_last, edition_at, reply_by, some_closes}
+use Rattle.session.proofs.Counted.{answerable_from, replies_from}
 
 -- ---- a history that grew
 

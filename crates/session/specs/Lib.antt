@@ -1,4 +1,5 @@
 -- Cited by public clauses.
+pub mod Pace
 pub mod Session
 pub mod Text
 -- Cited by private clauses and proofs.

@@ -18,8 +18,8 @@ abbrev pub end_by : Result SessionEnd Stop → SessionEnd
 end_by (Ok end) = end
 end_by (Err stop) = end_after stop
 
--- what was written of a reply: the whole where nothing failed, a first part of it where a write
--- did, and nothing where memory was wanting
+-- what was written of a reply: the whole where nothing failed, a proper prefix of it where a write
+-- did, and nothing where memory ran out
 abbrev pub Writes : List ℕ → Option (List ℕ) → Option (List ℕ) → Result Unit Stop → Type 0
 Writes reply held held_after (Ok _) = Adds held reply held_after
 Writes reply held held_after (Err stops.WriteFault) = AddsPart held reply held_after

@@ -1,8 +1,10 @@
 -- Cited by public clauses. The text that answers a connection, which is a reply for each request
 -- that is answered, in the order of the requests (RFC 9112, section 9.3.2), by whatever function
 -- makes the replies. The limit of requests on a connection and the bad reply are the project's own.
-use Rattle.std.specs.Prelude.{ℕ, zero, suc, ◌+◌, ◌==◌, nat_lt, Bool, true, false, ◌||◌, ◌&&◌, not, if◌then◌else◌, List, [], ◌∷◌, ◌++◌, length, take, slice_get, Option, None}
-use Rattle.std.specs.List.{concat, list_any}
+use Rattle.std.specs.Prelude.{ℕ, zero, suc, ◌==◌, nat_lt, Bool, true, false, ◌||◌, ◌&&◌, not}
+use Rattle.std.specs.Prelude.{if◌then◌else◌, List, [], ◌∷◌, ◌++◌, length, map, take, slice_get}
+use Rattle.std.specs.Prelude.{Option, None}
+use Rattle.std.specs.List.{concat, enumerate_from, list_any, zip}
 use Rattle.std.specs.Option.{option_map_or}
 use Rattle.http_wire.specs.declared.request.Request.{Request}
 use Rattle.http_wire.specs.Reply.{bad_reply_bytes}
@@ -19,28 +21,19 @@ Replier E = ℕ → E → Request → Bool → List ℕ
 abbrev pub request_limit : ℕ
 request_limit = 1000
 
--- whether the connection closes after the reply to this request, which has this number on its
--- connection, counted from 1
-abbrev pub is_last : ℕ → Request → Bool
-is_last number request = request.close || number == request_limit
-
--- of these requests, the first of which has this number, those that are answered: up to and with
--- the first after whose reply the connection closes
-abbrev pub answerable_from : ℕ → List Request → List Request
-answerable_from number [] = []
-answerable_from number (request ∷ requests) =
-    request ∷ (if is_last number request then [] else answerable_from (number + 1) requests)
-
--- of the requests of a stream, those that are answered: up to and with the first that closes, at
--- most 1,000
-abbrev pub answerable : List Request → List Request
-answerable requests = answerable_from 1 requests
-
 -- the requests up to and with the first that closes
 abbrev pub up_to_close : List Request → List Request
 up_to_close [] = []
 up_to_close (request ∷ requests) =
     request ∷ (if request.close then [] else up_to_close requests)
+
+-- of the requests of a stream, those that are answered
+abbrev pub answerable : List Request → List Request
+answerable requests = take request_limit (up_to_close requests)
+
+-- whether the connection closes after the reply to the request with this number
+abbrev pub is_last : ℕ → Request → Bool
+is_last number request = request.close || number == request_limit
 
 -- the edition with this number in a history; numbers count from 1
 abbrev pub edition_at : {E : Type 0} → List E → ℕ → Option E
@@ -52,18 +45,16 @@ abbrev pub reply_by : {E : Type 0} → Replier E → List E → ℕ → Request 
 reply_by reply history entry request last =
     option_map_or (λ edition. reply entry edition request last) (edition_at history entry) []
 
--- the replies to the first of these requests, one for each entry; the first request has this number
-abbrev pub replies_from : {E : Type 0}
-    → Replier E → List E → ℕ → List Request → List ℕ → List (List ℕ)
-replies_from reply history number [] entries = []
-replies_from reply history number (request ∷ requests) [] = []
-replies_from reply history number (request ∷ requests) (entry ∷ entries) =
+-- the reply to the request with this number, by its entry
+abbrev pub reply_to : {E : Type 0} → Replier E → List E → ℕ → Request → ℕ → List ℕ
+reply_to reply history number request entry =
     reply_by reply history entry request (is_last number request)
-    ∷ replies_from reply history (number + 1) requests entries
 
--- the replies to the first requests of a stream, one for each entry
+-- the replies to the requests of a stream that have an entry; requests are numbered from 1
 abbrev pub replies : {E : Type 0} → Replier E → List E → List Request → List ℕ → List (List ℕ)
-replies reply history requests entries = replies_from reply history 1 requests entries
+replies reply history requests entries =
+    map (λ one. reply_to reply history one.0.0 one.0.1 one.1)
+    (zip (enumerate_from 1 requests) entries)
 
 -- whether some request of these asks for a close
 abbrev pub some_closes : List Request → Bool
@@ -74,9 +65,8 @@ abbrev pub is_bad : StreamEnd → Bool
 is_bad Bad = true
 is_bad end = false
 
--- the bad reply, which follows so many replies where they answer all requests of the stream, none
--- of these closes, they are fewer than 1,000, and the stream ends in what can't be a request; else
--- nothing
+-- The bad reply follows `count` replies if and only if these answer all requests of the stream,
+-- none of which closes, they are fewer than 1,000, and the stream ends in what can't be a request.
 abbrev pub refusal : List Request → StreamEnd → ℕ → List ℕ
 refusal requests end count =
     if count == length requests && not (some_closes requests) && nat_lt count request_limit
@@ -84,15 +74,16 @@ refusal requests end count =
     then bad_reply_bytes else []
 
 -- The text of a connection whose stream has these requests and ends so, by the entries that were
--- gained for the first of its requests. There are no more entries than requests that are answered.
+-- gained for its first requests. There are no more entries than requests that are answered.
 abbrev pub session_text : {E : Type 0}
     → Replier E → List E → List Request → StreamEnd → List ℕ → List ℕ
 session_text reply history requests end entries =
     concat (replies reply history (answerable requests) entries)
     ++ refusal requests end (length entries)
 
--- the first so many replies of that text
-abbrev pub first_replies : {E : Type 0} → ℕ → Replier E → List E → List Request → List ℕ → List ℕ
+-- the first `count` replies of that text
+abbrev pub first_replies : {E : Type 0}
+    → ℕ → Replier E → List E → List Request → List ℕ → List ℕ
 first_replies count reply history requests entries =
     concat (take count (replies reply history (answerable requests) entries))
 
@@ -102,9 +93,9 @@ end_at Clean = ends.Closed
 end_at Bad = ends.Refused
 end_at Unfinished = ends.ReadFault
 
--- how a session ends where neither a write fails nor memory is wanting: closed where a request that
--- is answered asks for it, full where there are 1,000 requests and none of these does, and else as
--- the stream ends
+-- How a session ends where no write fails and memory doesn't run out: closed where a request that
+-- is answered asks for it, full where there are 1,000 requests and none of these does, and
+-- otherwise as the stream ends.
 abbrev pub end_of : List Request → StreamEnd → SessionEnd
 end_of requests end =
     if some_closes (answerable requests) then ends.Closed

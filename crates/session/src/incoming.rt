@@ -1,11 +1,13 @@
 //! The requests that come in over a link.
 
-ghost use Rattle.std.specs.Prelude.{◌≡◌, ℕ, ◌+◌, ◌<◌, ◌≤◌, ◌⊎◌, List, [], ◌++◌, length, false, IfOk, IfSome, OnOk, OnErr, IsErr, IsTrue, Ok};
+ghost use Rattle.std.specs.Prelude.{◌≡◌, ℕ, ◌+◌, ◌<◌, ◌≤◌, ◌⊎◌, List, [], ◌++◌, length, false};
+ghost use Rattle.std.specs.Prelude.{IfOk, IfSome, OnOk, OnErr, IsErr, IsTrue, Ok};
 ghost use Rattle.http_wire.specs.declared.heads.Next.TheVariants as answers;
-ghost use Rattle.http_wire.specs.declared.heads.TheConstants.{MAX_REST_BYTES};
-ghost use Rattle.http_wire.specs.declared.request.TheConstants.{MAX_HEAD_BYTES};
+ghost use Rattle.http_wire.specs.Head.{head_limit};
+ghost use Rattle.http_wire.specs.Reading.{rest_limit};
 ghost use Rattle.link_io.specs.Streams.{Takes};
 ghost use Rattle.session.specs.Incoming.{Hears, KnowsEnd};
+ghost use Rattle.session.specs.Pace.{read_limit};
 ghost use Rattle.session.specs.Steps.{OnlyReads};
 
 use crate::session_end::Stop;
@@ -17,14 +19,14 @@ use std::alloc::Global;
 /// The most bytes of one read.
 const PIECE: usize = 4_096;
 
-// Reads once, and feeds what came to the reader of heads, or tells it that the input ended.
+// Reads once, and feeds the bytes to the reader of heads, or ends its input.
 fn read_piece<L: Link>(link: &mut L, heads: &mut Heads) -> Result<(), Failed>
     requires goes_on { heads.old.ended ≡ false }
-    requires room { length heads.old.rest < MAX_HEAD_BYTES }
+    requires room { length heads.old.rest < head_limit }
 
     ensures fed { (bytes : List ℕ) × Takes (L.remaining link.old) bytes (L.remaining link.new)
-        × (heads.new.rest ≡ heads.old.rest ++ bytes) }
-    ensures room_left { length heads.new.rest ≤ MAX_REST_BYTES }
+        × (heads.new.rest ≡ heads.old.rest ++ bytes) × (length bytes ≤ read_limit) }
+    ensures room_left { length heads.new.rest ≤ rest_limit }
     ensures progress { OnOk result
         (IsTrue heads.new.ended ⊎ (length heads.old.rest < length heads.new.rest)) }
     ensures end { KnowsEnd (L.remaining link.new) heads.new }

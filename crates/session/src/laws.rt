@@ -1,20 +1,14 @@
-//! Laws of the requests in a stream. The functions do nothing: each contract is a law.
+//! Laws of sessions. The functions do nothing: each contract is a law.
 
-ghost use Rattle.std.specs.Prelude.{◌≡◌, ℕ, Bool, List, take};
+ghost use Rattle.std.specs.Prelude.{ℕ, ◌<◌, List, length};
 ghost use Rattle.http_wire.specs.declared.request.Request.{Request};
-ghost use Rattle.http_wire.specs.Requests.{Requests, StreamEnd};
-ghost use Rattle.session.specs.Text.{answerable, request_limit, up_to_close};
+ghost use Rattle.http_wire.specs.Requests.{HasGiven};
+ghost use Rattle.session.specs.Pace.{IsPaced, read_limit};
 
-/// No stream is without its requests: with the law that they are unique, what holds of whatever
-/// requests a stream has holds of its requests.
-pub fn each_stream_has_requests()
-    ensures { (stream : List ℕ) (ended : Bool)
-        → ¬ ((requests : List Request) (end : StreamEnd) → ¬ (Requests stream ended requests end)) }
-{}
-
-/// The requests that are answered are the first thousand of those up to and with the first that
-/// closes.
-pub fn the_first_thousand_up_to_a_close_are_answered()
-    ensures { (requests : List Request)
-        → answerable requests ≡ take request_limit (up_to_close requests) }
+/// Where the reads are paced by `count` requests, less than one read follows the next head: where
+/// more than `count` requests are given of the bytes read, fewer than 4,096 bytes remain.
+pub fn less_than_one_read_follows_the_next_head()
+    ensures { (read : List ℕ) (count : ℕ) (given : List Request) (rest : List ℕ)
+        → IsPaced read count → HasGiven read given rest → count < length given
+        → length rest < read_limit }
 {}

@@ -2,8 +2,8 @@
 //! was entered (RFC 9112, "Persistence").
 //!
 //! [`serve_link`] knows neither what an edition is nor what a reply says: a [`Responder`] makes the
-//! replies. `specs/Text.antt` says what the text of a connection is, and `specs/Session.antt` what
-//! a session did.
+//! replies. `specs/Text.antt` says what the text of a connection is, `specs/Pace.antt` how far it
+//! reads ahead, and `specs/Session.antt` what a session did.
 //!
 //! ```
 //! match serve_link(alloc, &mut link, &mut reader, &site) {
@@ -19,7 +19,7 @@ mod responder;
 mod serve;
 mod session_end;
 
-pub use laws::{each_stream_has_requests, the_first_thousand_up_to_a_close_are_answered};
+pub use laws::less_than_one_read_follows_the_next_head;
 pub use responder::Responder;
 pub use serve::serve_link;
 pub use session_end::SessionEnd;

@@ -5,7 +5,7 @@ ghost use Rattle.std.specs.Arc.{arc_value};
 ghost use Rattle.plain_data.specs.Causes.{IsCaused};
 ghost use Rattle.http_wire.specs.Reply.{bad_reply_bytes};
 ghost use Rattle.publication.specs.View.{OnlySees};
-ghost use Rattle.session.specs.Session.{ServesLink, Session};
+ghost use Rattle.session.specs.Session.{ServesLink, Session, state_by};
 ghost use Rattle.session.specs.Steps.{OnlyWrites, Writes, end_by};
 ghost use Rattle.session.specs.Text.{is_last};
 
@@ -28,7 +28,11 @@ const REQUEST_LIMIT: u64 = 1_000;
 /// request gets the bad reply, which has no entry. A reply is made whole before its first byte is
 /// written, and a session that has failed writes no more.
 ///
-/// Each entry is at least as new as all that the reader had seen and was told before.
+/// Each entry is at least as new as all that the reader had seen and received before.
+///
+/// No read is made between the entry of a request and the last byte of its reply, nor where a
+/// request was read whole and has no entry. So at most one head is read ahead of the replies, and
+/// after it less than one piece of 4,096 bytes.
 ///
 /// The session waits for nobody but the link, and ends on every link: each read takes a byte or
 /// ends the input, and 1,000 heads of at most 8,192 bytes end it.
@@ -38,9 +42,10 @@ pub fn serve_link<L: Link, E: Drop, R: Responder<E>>(
     reader: &mut EditionReader<E>,
     site: &R,
 ) -> SessionEnd
-    ensures serves { ServesLink (R.reply_of site.now) (L.remaining link.old) (L.remaining link.new)
-        (L.held link.old) (L.held link.new) (L.read_faults link.old) (L.read_faults link.new)
-        (L.write_faults link.old) (L.write_faults link.new) reader.old reader.new result }
+    ensures serves { ServesLink (R.reply_of site.now)
+        (state_by L.remaining L.held L.read_faults L.write_faults link.old)
+        (state_by L.remaining L.held L.read_faults L.write_faults link.new)
+        reader.old reader.new result }
     ensures same_references { L.Source.references link.new ≡ L.Source.references link.old }
 {
     match answer_requests(alloc, link, reader, site) {
@@ -57,16 +62,17 @@ fn is_last(number: u64, request: &Request) -> bool
     request.close || number == REQUEST_LIMIT
 }
 
-// Answers the requests until the session ends, or until there were as many as one connection may
-// have.
+// Answers the requests until the session ends, at most `REQUEST_LIMIT` of them.
 fn answer_requests<L: Link, E: Drop, R: Responder<E>>(
     alloc: Global,
     link: &mut L,
     reader: &mut EditionReader<E>,
     site: &R,
 ) -> Result<SessionEnd, Stop>
-    ensures session { Session (R.reply_of site.now) (L.remaining link.old) (L.remaining link.new)
-        (L.held link.old) (L.held link.new) reader.old reader.new (end_by result) }
+    ensures session { Session (R.reply_of site.now)
+        (state_by L.remaining L.held L.read_faults L.write_faults link.old)
+        (state_by L.remaining L.held L.read_faults L.write_faults link.new)
+        reader.old reader.new (end_by result) }
     ensures read_faults { IsCaused (L.read_faults link.old) (L.read_faults link.new)
         (end_by result ≡ SessionEnd.ReadFault) }
     ensures write_faults { IsCaused (L.write_faults link.old) (L.write_faults link.new)

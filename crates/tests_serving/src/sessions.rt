@@ -60,8 +60,20 @@ fn serve_between<I: Source, O: Sink, E: Drop, R: Responder<E>>(
     reader: &mut EditionReader<E>,
     site: &R,
 ) -> SessionEnd
-    ensures session { Session (R.reply_of site.now) (I.remaining input.old) (I.remaining input.new)
-        (O.held out.old) (O.held out.new) reader.old reader.new result }
+    ensures session { Session (R.reply_of site.now)
+        (record {
+          remaining = I.remaining input.old;
+          held = O.held out.old;
+          read_faults = I.read_faults input.old;
+          write_faults = O.write_faults out.old;
+        })
+        (record {
+          remaining = I.remaining input.new;
+          held = O.held out.new;
+          read_faults = I.read_faults input.new;
+          write_faults = O.write_faults out.new;
+        })
+        reader.old reader.new result }
     ensures read_faults { IsCaused (I.read_faults input.old) (I.read_faults input.new)
         (result ≡ SessionEnd.ReadFault) }
     ensures write_faults { IsCaused (O.write_faults out.old) (O.write_faults out.new)

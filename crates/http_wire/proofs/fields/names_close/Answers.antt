@@ -1,4 +1,4 @@
-use Rattle.std.proofs.Common.{rules, ◌≡◌, ◌+◌, ◌∷◌, ◌||◌, true, false, suc, take, drop, add-one, ap, sym, ◌∙◌, arith}
+use Rattle.std.proofs.Common.{rules, ◌+◌, ◌||◌, suc, drop, add-one, ap, sym, ◌∙◌}
 use Rattle.std.proofs.lemmas.List.{take_rest}
 use Rattle.std.specs.List.{list_any}
 use Rattle.http_wire.specs.Fields.{between_commas, is_close}

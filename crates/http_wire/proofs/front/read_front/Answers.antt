@@ -1,9 +1,9 @@
-use Rattle.std.proofs.Common.{sym, ap, ◌∙◌, drop, take, Err, arith}
+use Rattle.std.proofs.Common.{inl, sym, ap, ◌∙◌, drop, take, Err, arith}
 use Rattle.std.proofs.lemmas.Bool.{false≢true}
 use Rattle.http_wire.specs.Front.{request_at}
 use Rattle.http_wire.specs.Requests.{StandsHead}
 use Rattle.http_wire.proofs.FrontLemmas.{never_too_many, begins_at, breaks_at, on_err}
-use Rattle.http_wire.proofs.LineLemmas.{goes_on_if_partial, goes_on_without_line}
+use Rattle.http_wire.proofs.AheadLemmas.{undecided_if_partial}
 use Rattle.http_wire.proofs.front.read_front.Goals as goal
 
 pub returns-in_err-request-clause-memory : goal.returns-in_err-request-clause-memory
@@ -37,7 +37,7 @@ pub returns-in-Ok-Partial-clause-front : goal.returns-in-Ok-Partial-clause-front
 returns-in-Ok-Partial-clause-front c =
     let partial = rw c.in-Ok-Partial.field-0-is at c.in-Ok-Partial.ensures.partial in
     let unfinished = rw c.in-Ok-Partial.field-0-is at c.in-Ok-Partial.ensures.unfinished in
-    goes_on_if_partial c.args.bytes.now partial unfinished
+    undecided_if_partial c.args.bytes.now partial unfinished
 
 pub returns-in-Err-clause-front : goal.returns-in-Err-clause-front
 returns-in-Err-clause-front c =
@@ -47,8 +47,4 @@ returns-in-Err-clause-front c =
     record { line = sym c.has_line.ensures ∙ c.if-has_line.true; never = never }
 
 pub returns-in-Err-2-clause-front : goal.returns-in-Err-2-clause-front
-returns-in-Err-2-clause-front c =
-    let bytes = c.args.bytes.now in
-    let never = (rw c.in-Err.is at c.parse_request.ensures.invalid)
-    (λ is. never_too_many bytes _ (c.parse_request.ensures.too_many (c.in-Err.is ∙ ap Err is)) c.requires.short c.requires.room) in
-    goes_on_without_line bytes never (sym c.has_line.ensures ∙ c.if-has_line.false)
+returns-in-Err-2-clause-front c = inl (sym c.has_line.ensures ∙ c.if-has_line.false)

@@ -32,7 +32,7 @@ returns-in-NoHead-clause-answer c =
 pub returns-in-NoHead-2-clause-answer : goal.returns-in-NoHead-2-clause-answer
 returns-in-NoHead-2-clause-answer c = (
   refl,
-  clean_otherwise _ c.min.result _ c.min.ensures (rw c.in-NoHead-2.is at c.in_ok-request.ensures.front)
+  clean_otherwise _ _
       (λ over. false≢true (sym c.if-is_over.false ∙ c.is_over.ensures.1 over)) c.if-ended.true,
 )
 

@@ -1,5 +1,5 @@
--- So many requests were answered, none of them closes, and the reader of heads has not been told
--- more than is so.
+-- The first requests were answered, none of them closes, and the reader of heads knows the input as
+-- ended only where it is.
 use Rattle.std.proofs.Common.{◌≡◌}
 use Rattle.publication.specs.View.{OnlySees}
 use Rattle.session.specs.Incoming.{KnowsEnd}
