@@ -1,12 +1,12 @@
 -- What a path finds in rows without parameters: the row that is the path, else the longest front of
 -- it that ends in a catch-all.
-use Rattle.std.proofs.Common.{◌≡◌, ◌≢◌, ℕ, zero, suc, ◌-◌, ◌<◌, ◌≤◌, ◌==◌, ◌&&◌, ◌||◌, Bool, true, false, cond, List, [], ◌∷◌, ◌++◌, length, Option, Some, None, nat_eq, nat_lt, refl, sym, ap, ap₂, ◌∙◌, subst, arith}
+use Rattle.std.proofs.Common.{◌≡◌, ℕ, zero, suc, ◌-◌, ◌==◌, ◌&&◌, ◌||◌, Bool, true, false, cond, List, [], ◌∷◌, ◌++◌, length, Option, Some, None, nat_eq, nat_lt, refl, sym, ap, ap₂, ◌∙◌, arith}
 use Rattle.std.proofs.lemmas.Bool.{false≢true, eqb-true, lt-ltb, ltb-true, ltb-false, le-ltb}
 use Rattle.std.specs.List.{list_any, starts_with}
 use Rattle.matchit.specs.Rows.{RowsOf}
 use Rattle.matchit.specs.Order.{lookup}
-use Rattle.matchit.specs.Seek.{segment, has_slash, same_text, own, step, or_else, seek, param_step}
-use Rattle.routes.specs.Targets.{goes_on_after}
+use Rattle.matchit.specs.Seek.{has_slash, same_text, own, step, or_else, seek, param_step}
+use Rattle.routes.specs.Targets.{is_below}
 
 abbrev is_param : ℕ → Bool
 is_param token = token == 256
@@ -20,14 +20,14 @@ nat_lt-suc m n = by (nat_lt m n) refl
     by true is = let less = ltb-true m n is in lt-ltb (suc m) (suc n) (omega arith)
     by false is = let most = ltb-false m n is in le-ltb (suc m) (suc n) (omega arith)
 
-goes_on_after-cons : (x b : ℕ) (front path : List ℕ)
-    → goes_on_after (x ∷ front) (b ∷ path) ≡ ((x == b) && goes_on_after front path)
-goes_on_after-cons x b front path =
+is_below-cons : (x b : ℕ) (front path : List ℕ)
+    → is_below (x ∷ front) (b ∷ path) ≡ ((x == b) && is_below front path)
+is_below-cons x b front path =
     ap (λ less. ((x == b) && starts_with nat_eq path front) && less) (nat_lt-suc (length front) (length path))
     ∙ by (x == b)
   where
     by : (same : Bool) → ((same && starts_with nat_eq path front) && nat_lt (length front) (length path))
-        ≡ (same && goes_on_after front path)
+        ≡ (same && is_below front path)
     by true = refl
     by false = refl
 
@@ -193,7 +193,7 @@ module _ {K : Type 0} where
   caught-end key (b ∷ path) = ap (λ r. or_else r None) (caught-empty path)
 
   pub caught-one : (front : List ℕ) (key : K) (path : List ℕ) → list_any (λ b. b == 257) front ≡ false
-      → caught ((front ++ 257 ∷ [], key) ∷ []) path ≡ cond (goes_on_after front path) (Some key) None
+      → caught ((front ++ 257 ∷ [], key) ∷ []) path ≡ cond (is_below front path) (Some key) None
   caught-one [] key [] bytes = refl
   caught-one [] key (b ∷ path) bytes =
       ap (λ r. or_else r (Some key)) (by (257 == b))
@@ -205,14 +205,14 @@ module _ {K : Type 0} where
   caught-one (x ∷ front) key [] bytes = refl
   caught-one (x ∷ front) key (b ∷ path) bytes =
       by (x == b) (x == 257) bytes (caught-one front key path)
-      ∙ ap (λ t. cond t (Some key) None) (sym (goes_on_after-cons x b front path))
+      ∙ ap (λ t. cond t (Some key) None) (sym (is_below-cons x b front path))
     where
       by : (hit catch : Bool) → (catch || list_any (λ b. b == 257) front) ≡ false
           → (list_any (λ b. b == 257) front ≡ false
-          → caught ((front ++ 257 ∷ [], key) ∷ []) path ≡ cond (goes_on_after front path) (Some key) None)
+          → caught ((front ++ 257 ∷ [], key) ∷ []) path ≡ cond (is_below front path) (Some key) None)
           → or_else (caught (cond hit ((front ++ 257 ∷ [], key) ∷ []) []) path)
           (own (cond catch ((front ++ 257 ∷ [], key) ∷ []) []))
-          ≡ cond (hit && goes_on_after front path) (Some key) None
+          ≡ cond (hit && is_below front path) (Some key) None
       by hit true none later = absurd (false≢true (sym none))
       by true false none later = ap (λ r. or_else r None) (later none) ∙ or_else-none _
       by false false none later = ap (λ r. or_else r None) (caught-empty path)

@@ -1,27 +1,27 @@
 -- What the rows of the router find is what the table of routes says.
-use Rattle.std.proofs.Common.{◌≡◌, ℕ, ◌==◌, ◌&&◌, ◌||◌, Bool, true, false, cond, List, [], ◌∷◌, ◌++◌, length, Option, Some, None, get_or, ◌<◌, refl, sym, ap, ap₂, ◌∙◌, subst, arith, ⊎_elim}
+use Rattle.std.proofs.Common.{◌≡◌, ℕ, ◌==◌, Bool, true, false, cond, List, [], ◌∷◌, ◌++◌, length, Option, Some, None, get_or, ◌<◌, refl, sym, ap, ap₂, ◌∙◌, subst, arith, ⊎_elim}
 use Rattle.std.proofs.lemmas.Bool.{cases_Bool, ne_eqb}
 use Rattle.std.proofs.lemmas.List.Elements.{All-from_get_or}
 use Rattle.std.proofs.lemmas.List.Folds.{list_any_none}
 use Rattle.std.proofs.lemmas.Slice.Eq.{bytes_eq-Decides}
-use Rattle.std.specs.Prelude.{codes}
+use Rattle.std.specs.Prelude.{codes, option_map}
 use Rattle.std.specs.List.{list_any}
 use Rattle.std.specs.Str.{bytes_eq}
 use Rattle.matchit.proofs.RenameLemmas.{first-rename}
 use Rattle.matchit.specs.Order.{lookup}
 use Rattle.matchit.specs.Router.{RouteOf, map_key, rename}
 use Rattle.matchit.specs.Rows.{RowsOf}
-use Rattle.matchit.specs.Seek.{first, or_else, same_text}
+use Rattle.matchit.specs.Seek.{first, or_else}
 use Rattle.routes.specs.declared.router.Page.{Page}
 use Rattle.routes.specs.declared.router.Page.TheVariants as pages
 use Rattle.routes.specs.Rows.{page_rows}
-use Rattle.routes.specs.Targets.{goes_on_after, page_at}
-use Rattle.routes.proofs.RowLemmas.{Plain, seek-is, caught, caught-catching, caught-one, caught-two}
+use Rattle.routes.specs.Targets.{Pattern, below, is_below, page_at}
+use Rattle.routes.proofs.RowLemmas.{seek-is, caught, caught-catching, caught-one, caught-two}
 
 caught-page : (path : List ℕ) → list_any (λ b. b == 257) path ≡ false
     → caught page_rows path
-    ≡ or_else (cond (goes_on_after (codes "pkg/") path) (Some pages.Package) None)
-    (cond (goes_on_after (codes "src/") path) (Some pages.Source) None)
+    ≡ or_else (cond (is_below (codes "pkg/") path) (Some pages.Package) None)
+    (cond (is_below (codes "src/") path) (Some pages.Source) None)
 caught-page path bytes =
     caught-catching page_rows path bytes
     ∙ caught-two 112 115 (codes "kg/" ++ 257 ∷ []) (codes "rc/" ++ 257 ∷ []) pages.Package pages.Source path
@@ -31,8 +31,8 @@ caught-page path bytes =
 -- what the rows of whole paths find, and then what was caught, is what the table says
 abbrev Agrees : List ℕ → Type 0
 Agrees path = (found : Option Page)
-    → found ≡ or_else (cond (goes_on_after (codes "pkg/") path) (Some pages.Package) None)
-    (cond (goes_on_after (codes "src/") path) (Some pages.Source) None)
+    → found ≡ or_else (cond (is_below (codes "pkg/") path) (Some pages.Package) None)
+    (cond (is_below (codes "src/") path) (Some pages.Source) None)
     → or_else (lookup path page_rows) found ≡ page_at path
 
 -- a path that is this text, or isn't
@@ -44,11 +44,14 @@ no_text : (path : List ℕ) → bytes_eq (codes "faults") path ≡ false → byt
     → bytes_eq (codes "pkg/") path ≡ false → bytes_eq (codes "pkg") path ≡ false → bytes_eq (codes "search") path ≡ false
     → bytes_eq (codes "src/" ++ 257 ∷ []) path ≡ false → bytes_eq (codes "") path ≡ false → Agrees path
 no_text path a b c d e f g found is =
-    rw (a, b, c, d, e, f, g, is) (by (goes_on_after (codes "pkg/") path) (goes_on_after (codes "src/") path))
+    rw (a, b, c, d, e, f, g, is) (by (is_below (codes "pkg/") path) (is_below (codes "src/") path))
   where
     by : (after_package after_source : Bool)
-        → or_else (cond after_package (Some pages.Package) None) (cond after_source (Some pages.Source) None)
-        ≡ cond after_package (Some pages.Package) (cond after_source (Some pages.Source) None)
+        → or_else (cond after_package (Some pages.Package) None)
+        (cond after_source (Some pages.Source) None)
+        ≡ option_map (λ (row : Pattern × Page). row.1)
+        (cond after_package (Some (below (codes "pkg/"), pages.Package))
+        (cond after_source (Some (below (codes "src/"), pages.Source)) None))
     by true after_source = refl
     by false true = refl
     by false false = refl

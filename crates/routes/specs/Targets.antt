@@ -1,10 +1,11 @@
 -- Cited by public clauses. What a request asks for, by the table of routes. The routes are the
 -- project's own.
 use Rattle.std.specs.Prelude.{ℕ, ◌-◌, ◌==◌, Bool, ◌&&◌, nat_eq, nat_lt, nat_le, if◌then◌else◌}
-use Rattle.std.specs.Prelude.{List, [], ◌∷◌, length, take, drop, codes, Option, Some, None}
+use Rattle.std.specs.Prelude.{List, [], ◌∷◌, length, take, drop, codes}
+use Rattle.std.specs.Prelude.{Option, Some, None, option_map}
 use Rattle.std.specs.Char.{is_ascii_digit}
-use Rattle.std.specs.List.{before_first, after_first, ends_with, list_all, list_any, starts_with}
-use Rattle.std.specs.Str.{bytes_eq, is_utf8}
+use Rattle.std.specs.List.{before_first, after_first, ends_with, find, list_all, starts_with}
+use Rattle.std.specs.Str.{byte, bytes_eq, is_utf8}
 use Rattle.std.specs.Str.Lossy.{utf8_lossy}
 use Rattle.std.specs.Str.Parse.{digits_value}
 use Rattle.form_urlencoded.specs.Form.{decode, raw_pairs}
@@ -13,7 +14,6 @@ use Rattle.http_wire.specs.declared.request.Request.{Request}
 use Rattle.http_wire.specs.declared.request.Verb.{Verb}
 use Rattle.http_wire.specs.declared.request.Verb.TheVariants as verbs
 use Rattle.percent_encoding.specs.Percent.{percent_decode}
-use Rattle.routes.specs.declared.query.TheConstants.{MAX_PAGE_DIGITS}
 use Rattle.routes.specs.declared.router.Page.{Page}
 use Rattle.routes.specs.declared.router.Page.TheVariants as pages
 use Rattle.routes.specs.declared.target.Target.{Target}
@@ -21,13 +21,11 @@ use Rattle.routes.specs.declared.target.Target.TheVariants as targets
 
 -- ---- the parts of a target (RFC 9112, section 3.2)
 
--- b'/'
 abbrev pub is_slash : ℕ → Bool
-is_slash b = b == 47
+is_slash b = b == byte "/"
 
--- b'?'
 abbrev pub is_question_mark : ℕ → Bool
-is_question_mark b = b == 63
+is_question_mark b = b == byte "?"
 
 -- what follows a leading slash
 abbrev pub after_slash : List ℕ → Option (List ℕ)
@@ -50,21 +48,34 @@ query_of rest = after_first is_question_mark rest
 
 -- ---- the table of routes, for a path without its leading slash
 
--- the text is one of these
-abbrev pub is_among : List (List ℕ) → List ℕ → Bool
-is_among texts text = list_any (λ one. bytes_eq one text) texts
+-- a pattern is one path, or all that begin with a folder's prefix and have at least one more byte
+pub data Pattern : Type 0 where
+  exactly below : List ℕ → Pattern
 
--- the path continues after this
-abbrev pub goes_on_after : List ℕ → List ℕ → Bool
-goes_on_after front path = starts_with nat_eq path front && nat_lt (length front) (length path)
+-- the path has this prefix and at least one more byte
+abbrev pub is_below : List ℕ → List ℕ → Bool
+is_below prefix path = starts_with nat_eq path prefix && nat_lt (length prefix) (length path)
 
+-- the pattern matches the path
+abbrev pub matches : Pattern → List ℕ → Bool
+matches (exactly text) path = bytes_eq text path
+matches (below prefix) path = is_below prefix path
+
+-- the table, with a page for each pattern
+abbrev pub route_table : List (Pattern × Page)
+route_table =
+    (exactly (codes ""), pages.List)
+    ∷ (exactly (codes "pkg"), pages.List)
+    ∷ (exactly (codes "pkg/"), pages.List)
+    ∷ (below (codes "pkg/"), pages.Package)
+    ∷ (below (codes "src/"), pages.Source)
+    ∷ (exactly (codes "search"), pages.Search)
+    ∷ (exactly (codes "faults"), pages.Faults)
+    ∷ []
+
+-- the page of the first row whose pattern matches the path
 abbrev pub page_at : List ℕ → Option Page
-page_at path =
-    if is_among (codes "" ∷ codes "pkg" ∷ codes "pkg/" ∷ []) path then Some pages.List
-    else (if goes_on_after (codes "pkg/") path then Some pages.Package
-    else (if goes_on_after (codes "src/") path then Some pages.Source
-    else (if bytes_eq (codes "search") path then Some pages.Search
-    else (if bytes_eq (codes "faults") path then Some pages.Faults else None))))
+page_at path = option_map (λ row. row.1) (find (λ row. matches row.0 path) route_table)
 
 -- what follows `pkg/` or `src/`
 abbrev pub value_of : List ℕ → List ℕ
@@ -109,11 +120,15 @@ first_value_of name ((key, value) ∷ pairs) =
 abbrev pub first_value : List ℕ → List ℕ → Option (List ℕ)
 first_value name query = first_value_of name (raw_pairs query)
 
--- one to six digits, and at least 1
+-- the most digits of the number of a page
+abbrev pub page_digits_limit : ℕ
+page_digits_limit = 6
+
+-- at least one digit and no more than these, and a number of at least 1
 abbrev pub is_page_number : List ℕ → Bool
 is_page_number text =
-    nat_lt 0 (length text) && nat_le (length text) MAX_PAGE_DIGITS && list_all is_ascii_digit text
-    && nat_lt 0 (digits_value 10 text)
+    nat_lt 0 (length text) && nat_le (length text) page_digits_limit
+    && list_all is_ascii_digit text && nat_lt 0 (digits_value 10 text)
 
 abbrev pub page_number : List ℕ → Option ℕ
 page_number text = if is_page_number text then Some (digits_value 10 text) else None
@@ -127,7 +142,7 @@ abbrev pub search_at : List ℕ → Option ℕ → Target
 search_at name None = targets.BadTarget
 search_at name (Some page) = targets.Search name page
 
--- a search by the values of `q` and `p`: for an identifier that is no keyword
+-- a search by the values of `q` and `p`: for an identifier that isn't a keyword
 abbrev pub search_by : Option (List ℕ) → Option (List ℕ) → Target
 search_by None page = targets.BadTarget
 search_by (Some name) page =

@@ -58,8 +58,8 @@ fn page_asked(text: Option<Txt>) -> Option<u32>
     }
 }
 
-/// The search that a query asks for: the first `q` is an identifier that is no keyword, and the
-/// first `p` the number of a page.
+/// The search that a query asks for: the first `q` is an identifier that isn't a keyword, and
+/// the first `p` the number of a page.
 pub fn search_target(alloc: Global, query: &str) -> Mem<Target>
     ensures { IfOk result (λ target. target ≡ search_target query.now) }
 {

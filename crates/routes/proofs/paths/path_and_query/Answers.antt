@@ -1,6 +1,5 @@
-use Rattle.std.proofs.Common.{◌≡◌, ap, sym, ◌∙◌, subst, Some, None, arith}
+use Rattle.std.proofs.Common.{arith}
 use Rattle.std.proofs.lemmas.Str.Pattern.{strip_prefix_char}
-use Rattle.std.specs.Prelude.{MatchOption}
 use Rattle.routes.proofs.TextLemmas.{after_slash_is, not_absolute}
 use Rattle.routes.proofs.paths.path_and_query.Goals as goal
 

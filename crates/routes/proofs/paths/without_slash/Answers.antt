@@ -1,4 +1,4 @@
-use Rattle.std.proofs.Common.{◌≡◌, ap, sym, ◌∙◌, Some, None, arith}
+use Rattle.std.proofs.Common.{arith}
 use Rattle.std.proofs.lemmas.Str.Pattern.{strip_suffix_char}
 use Rattle.routes.proofs.TextLemmas.{without_slash_some, without_slash_none}
 use Rattle.routes.proofs.paths.without_slash.Goals as goal

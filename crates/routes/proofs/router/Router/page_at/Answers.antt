@@ -1,4 +1,4 @@
-use Rattle.std.proofs.Common.{◌≡◌, ℕ, ap, sym, ◌∙◌, Some, None, arith}
+use Rattle.std.proofs.Common.{ap, sym, ◌∙◌, arith}
 use Rattle.matchit.specs.Router.{RouteOf, map_key}
 use Rattle.routes.specs.declared.router.Page.{Page}
 use Rattle.routes.proofs.TableLemmas.{page-found}
