@@ -2,15 +2,17 @@
 -- files make up, its faults, and the table of its identifiers. The project's own, over the
 -- definitions of outcomes, of packages (The Go Programming Language Specification, "Packages") and
 -- of hits.
-use Rattle.std.specs.Prelude.{◌≡◌, ℕ, Bool, List, [], Option, Some, None, All, map, filter}
+use Rattle.std.specs.Prelude.{◌≡◌, ℕ, Bool, List, [], Option, Some, None, All, AllPairs, map}
+use Rattle.std.specs.Prelude.{filter}
 use Rattle.std.specs.Prelude.{codes, nat_eq, slice_index, if◌then◌else◌}
-use Rattle.std.specs.List.{ends_with, enumerate_from, filter_map}
+use Rattle.std.specs.List.{ends_with, enumerate_from, filter_map, flat_map}
 use Rattle.go_ast.specs.declared.config.Config.{Config}
 use Rattle.go_ast.specs.declared.fault.Fault.TheVariants.{OtherPackage}
 use Rattle.go_ast.specs.Marks.{text_of}
 use Rattle.tree_io.specs.declared.tree.Entry.{Entry}
 use Rattle.tree_io.specs.declared.tree.Entry.TheVariants.{Bytes}
-use Rattle.ident_index.specs.Postings.{IsTableOf, NamedHit, Posting, named_of_all}
+use Rattle.ident_index.specs.Hits.{IsHitBelow, ReadFile, hits_with_text}
+use Rattle.ident_index.specs.Postings.{IsTableOf, NamedHit, Posting, hits_at, named_of_all}
 use Rattle.package_group.specs.declared.facts.FileFact.{FileFact}
 use Rattle.package_group.specs.declared.facts.Grouped.{Grouped}
 use Rattle.package_group.specs.declared.facts.Package.{Package}
@@ -151,3 +153,18 @@ edition sources tables = record { sources = sources; tables = tables }
 pub record IsEdition (e : Edition) : Type 0 where
   pub sources : IsSnapshot e.sources
   pub tables : IsCorpusOf e.sources e.tables
+
+-- the reading of an accepted file
+abbrev pub read_of : AcceptedFile → ReadFile
+read_of a = record {
+  source = a.bytes;
+  tokens = a.parsed.scanned.tokens;
+  file = a.parsed.file;
+  number = a.number;
+}
+
+-- under a name the table has a hit for exactly the identifiers with that text of the files that
+-- belong to packages, and the hits rise by file and offset
+pub record HasHitsByName (t : Tables) (name : List ℕ) : Type 0 where
+  pub texts : hits_at t.postings name ≡ flat_map (hits_with_text name) (map read_of (kept t.files))
+  pub rising : AllPairs IsHitBelow (hits_at t.postings name)

@@ -25,5 +25,5 @@ mod snapshot;
 pub use assembly::assemble;
 pub use corpus::{Corpus, own_tables};
 pub use faults::FileFault;
-pub use laws::one_corpus;
+pub use laws::{hits_by_name, one_corpus};
 pub use snapshot::{MAX_FILES, MAX_SCAN_BYTES, Snapshot, TooLarge, entry_size};
