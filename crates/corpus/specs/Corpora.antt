@@ -12,7 +12,7 @@ use Rattle.go_ast.specs.Marks.{text_of}
 use Rattle.tree_io.specs.declared.tree.Entry.{Entry}
 use Rattle.tree_io.specs.declared.tree.Entry.TheVariants.{Bytes}
 use Rattle.ident_index.specs.Hits.{IsHitBelow, ReadFile, hits_with_text}
-use Rattle.ident_index.specs.Postings.{IsTableOf, NamedHit, Posting, hits_at, named_of_all}
+use Rattle.ident_index.specs.Postings.{IsTableOf, NamedHit, hits_at, named_of_all}
 use Rattle.package_group.specs.declared.facts.FileFact.{FileFact}
 use Rattle.package_group.specs.declared.facts.Grouped.{Grouped}
 use Rattle.package_group.specs.declared.facts.Package.{Package}
@@ -22,6 +22,7 @@ use Rattle.corpus_piece.specs.declared.outcome.Outcome.TheVariants.{Ignored, Fau
 use Rattle.corpus_piece.specs.declared.outcome.Parsed.{Parsed}
 use Rattle.corpus_piece.specs.Pieces.{IsJudged, JudgedFile}
 use Rattle.corpus.specs.declared.faults.FileFault.{FileFault}
+pub use Rattle.corpus.specs.declared.tables.Tables.{Tables}
 use Rattle.corpus.specs.Snapshots.{IsSnapshot, SourceSet}
 
 -- what a piece is made of: a path, an entry, a configuration and a number
@@ -121,17 +122,6 @@ faults_of files = filter_map (λ f. fault_as files f f.outcome) files
 -- the hits of the files that belong to packages, in their order, with their names
 abbrev pub hits_in : List JudgedFile → List NamedHit
 hits_in files = named_of_all (map (λ a. (a.bytes, a.parsed.hits)) (kept files))
-
--- what is computed from a set of sources: its files with their outcomes, and the tables over them
-pub record Tables : Type 0 where
-  pub files : List JudgedFile
-  pub packages : List Package
-  pub faults : List FileFault
-  pub postings : List Posting
-
-abbrev pub tables : List JudgedFile → List Package → List FileFault → List Posting → Tables
-tables files packages faults postings =
-    record { files = files; packages = packages; faults = faults; postings = postings }
 
 -- the tables are those of the set of sources
 pub record IsCorpusOf (s : SourceSet) (t : Tables) : Type 0 where

@@ -21,6 +21,7 @@ mod index;
 mod laws;
 mod packages;
 mod snapshot;
+mod tables;
 
 pub use assembly::assemble;
 pub use corpus::{Corpus, own_tables};
