@@ -28,3 +28,4 @@ pub use corpus::{Corpus, own_tables};
 pub use faults::FileFault;
 pub use laws::{hits_by_name, one_corpus};
 pub use snapshot::{MAX_FILES, MAX_SCAN_BYTES, Snapshot, TooLarge, entry_size};
+pub use tables::Tables;

@@ -8,13 +8,13 @@ use package_group::Package;
 
 /// What is computed from a set of sources: its files with their outcomes, and the tables over them.
 #[derive(Drop)]
-pub(crate) struct Tables {
+pub struct Tables {
     /// The files with their outcomes, by their numbers.
-    pub(crate) files: Seq<Piece>,
+    pub files: Seq<Piece>,
     /// The packages, sorted ascending by path.
-    pub(crate) packages: Seq<Package>,
+    pub packages: Seq<Package>,
     /// The faults, in the order of the files.
-    pub(crate) faults: Seq<FileFault>,
+    pub faults: Seq<FileFault>,
     /// The identifiers by their names.
-    pub(crate) postings: Postings,
+    pub postings: Postings,
 }
