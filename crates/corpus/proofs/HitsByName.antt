@@ -10,7 +10,8 @@ use Rattle.std.proofs.lemmas.List.Kept.{AllPairs-cons}
 use Rattle.ident_index.specs.Hits.{IsHitBelow, IsReadFile, ReadFile, hits_with_text, source_and_hits_of}
 use Rattle.ident_index.specs.Postings.{hits_at, hits_named, named_of_all}
 use Rattle.ident_index.proofs.IndexLaws.{hits_of_table, hits_of_texts, texts_rise}
-use Rattle.corpus.specs.Corpora.{AcceptedFile, HasHitsByName, IsCorpusOf, Tables, accepted, hits_in, is_kept, kept, read_of}
+use Rattle.corpus.specs.declared.tables.Tables.{Tables}
+use Rattle.corpus.specs.Corpora.{AcceptedFile, HasHitsByName, IsCorpusOf, accepted, hits_in, is_kept, kept, read_of}
 use Rattle.corpus.specs.Snapshots.{SourceSet}
 use Rattle.corpus.proofs.Beside.{still_rising}
 use Rattle.corpus.proofs.Numbers.{numbers_rise}

@@ -11,7 +11,8 @@ use Rattle.package_group.specs.Groups.{IsGrouping}
 use Rattle.corpus_piece.specs.declared.outcome.Outcome.{Outcome}
 use Rattle.corpus_piece.specs.Outcomes.{IsOutcomeOf}
 use Rattle.corpus_piece.specs.Pieces.{IsJudged, JudgedFile}
-use Rattle.corpus.specs.Corpora.{AcceptedFile, ArePackagesOf, Input, IsCorpusOf, Tables, accepted, facts, faults_of, hits_in, input_of, renumbered}
+use Rattle.corpus.specs.declared.tables.Tables.{Tables}
+use Rattle.corpus.specs.Corpora.{AcceptedFile, ArePackagesOf, Input, IsCorpusOf, accepted, facts, faults_of, hits_in, input_of, renumbered}
 use Rattle.corpus.specs.Snapshots.{SourceSet}
 
 module _ (one_outcome : (path : List ℕ) (entry : Entry) (config : Config) (number : ℕ) (x y : Outcome) → IsOutcomeOf path entry config number x → IsOutcomeOf path entry config number y → x ≡ y) where

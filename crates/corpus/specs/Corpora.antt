@@ -22,7 +22,7 @@ use Rattle.corpus_piece.specs.declared.outcome.Outcome.TheVariants.{Ignored, Fau
 use Rattle.corpus_piece.specs.declared.outcome.Parsed.{Parsed}
 use Rattle.corpus_piece.specs.Pieces.{IsJudged, JudgedFile}
 use Rattle.corpus.specs.declared.faults.FileFault.{FileFault}
-pub use Rattle.corpus.specs.declared.tables.Tables.{Tables}
+use Rattle.corpus.specs.declared.tables.Tables.{Tables}
 use Rattle.corpus.specs.Snapshots.{IsSnapshot, SourceSet}
 
 -- what a piece is made of: a path, an entry, a configuration and a number

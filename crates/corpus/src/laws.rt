@@ -1,7 +1,8 @@
 //! What holds of every corpus.
 
 ghost use Rattle.std.specs.Prelude.{◌≡◌, ℕ, List};
-ghost use Rattle.corpus.specs.Corpora.{HasHitsByName, IsCorpusOf, Tables};
+ghost use Rattle.corpus.specs.declared.tables.Tables.{Tables};
+ghost use Rattle.corpus.specs.Corpora.{HasHitsByName, IsCorpusOf};
 ghost use Rattle.corpus.specs.Snapshots.{SourceSet};
 
 use corpus_piece::one_outcome;
