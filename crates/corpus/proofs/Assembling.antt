@@ -19,7 +19,7 @@ use Rattle.corpus_piece.specs.declared.outcome.Outcome.TheVariants.{Accepted}
 use Rattle.corpus_piece.specs.Pieces.{IsJudged, JudgedFile}
 use Rattle.corpus.specs.declared.accepted.Accepted.{Accepted as File}
 use Rattle.corpus.specs.declared.faults.FileFault.{FileFault}
-use Rattle.corpus.specs.Corpora.{AcceptedFile, AreFilesOf, Input, IsCorpusOf, accepted, accepted_as, fact_of, facts, faults_of, is_kept, kept, renumbered, tables}
+use Rattle.corpus.specs.Corpora.{AcceptedFile, AreFilesOf, Input, IsCorpusOf, accepted, accepted_as, fact_of, facts, faults_of, is_kept, kept, renumbered}
 use Rattle.corpus.specs.Snapshots.{IsSnapshot, SourceSet}
 use Rattle.corpus.specs.Steps.{AreBeside, ArePlacesOf, HasName, HasPlacesOf, number_of, seen, source_of}
 use Rattle.corpus.proofs.Beside.{still_rising}
@@ -122,7 +122,7 @@ pub is_corpus : (s : SourceSet) (pieces : List JudgedFile) (files : List File) (
     (packages : List Package) (faults : List FileFault) (postings : List Posting) → AreFilesOf s pieces → All IsJudged pieces → map seen files ≡ accepted pieces
     → IsGrouping s.config.prefix (map (λ file. fact_of (seen file)) files) grouped → AreBeside pieces numbers → packages ≡ map (renumbered (map number_of files)) grouped.packages
     → faults ≡ faults_of pieces → IsTableOf (named_of_all (map source_of (filter (λ a. not (list_any (nat_eq a.number) numbers)) (map seen files)))) postings
-    → IsCorpusOf s (tables pieces packages faults postings)
+    → IsCorpusOf s (record { files = pieces; packages = packages; faults = faults; postings = postings })
 is_corpus s pieces files grouped numbers packages faults postings are judged same grouping beside packages_are faults_are table = record {
   files = are;
   judged = judged;

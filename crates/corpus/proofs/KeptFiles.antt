@@ -1,5 +1,5 @@
 -- The files that a corpus keeps: each stands at its number among all files, and was read.
-use Rattle.std.proofs.Common.{◌≡◌, ℕ, ◌<◌, Bool, true, false, List, [], ◌∷◌, Option, Some, None, All, length, get_or, refl, sym, ap, subst, ◌∙◌, arith}
+use Rattle.std.proofs.Common.{◌≡◌, ℕ, ◌<◌, Bool, true, false, List, [], ◌∷◌, Option, Some, None, All, length, get_or, refl, sym, ap, subst, ◌∙◌}
 use Rattle.std.specs.Prelude.{IfSome, slice_get}
 use Rattle.std.specs.List.{cons_option, filter_map}
 use Rattle.std.proofs.lemmas.List.Elements.{All-cons, All-filter, All-head, All-nil, All-tail}
@@ -7,7 +7,8 @@ use Rattle.std.proofs.lemmas.Option.{slice_get-get_or}
 use Rattle.corpus_piece.specs.declared.outcome.Outcome.{Outcome}
 use Rattle.corpus_piece.specs.declared.outcome.Outcome.TheVariants.{Accepted, Faulty, Ignored}
 use Rattle.corpus_piece.specs.Pieces.{IsJudged, JudgedFile}
-use Rattle.corpus.specs.Corpora.{AcceptedFile, AreFilesOf, IsCorpusOf, Tables, accepted, accepted_file, bytes_in, fault_as, is_kept, kept, other_package}
+use Rattle.corpus.specs.declared.tables.Tables.{Tables}
+use Rattle.corpus.specs.Corpora.{AcceptedFile, AreFilesOf, IsCorpusOf, accepted, accepted_file, bytes_in, fault_as, is_kept, kept, other_package}
 use Rattle.corpus.specs.declared.faults.FileFault.{FileFault}
 use Rattle.corpus.specs.Snapshots.{SourceSet}
 use Rattle.corpus.proofs.Inputs.{length-files, number_at}

@@ -3,6 +3,7 @@ mod Beside
 pub mod CorpusLaws
 mod FileFaults
 mod Halving
+mod HitsByName
 mod Inputs
 mod KeptFiles
 pub mod Lists

@@ -11,7 +11,8 @@ use Rattle.package_group.specs.Groups.{IsGrouping}
 use Rattle.corpus_piece.specs.declared.outcome.Outcome.{Outcome}
 use Rattle.corpus_piece.specs.Outcomes.{IsOutcomeOf}
 use Rattle.corpus_piece.specs.Pieces.{IsJudged, JudgedFile}
-use Rattle.corpus.specs.Corpora.{AcceptedFile, ArePackagesOf, Input, IsCorpusOf, Tables, accepted, facts, faults_of, hits_in, input_of, renumbered, tables}
+use Rattle.corpus.specs.declared.tables.Tables.{Tables}
+use Rattle.corpus.specs.Corpora.{AcceptedFile, ArePackagesOf, Input, IsCorpusOf, accepted, facts, faults_of, hits_in, input_of, renumbered}
 use Rattle.corpus.specs.Snapshots.{SourceSet}
 
 module _ (one_outcome : (path : List ℕ) (entry : Entry) (config : Config) (number : ℕ) (x y : Outcome) → IsOutcomeOf path entry config number x → IsOutcomeOf path entry config number y → x ≡ y) where
@@ -46,4 +47,4 @@ module _ (one_outcome : (path : List ℕ) (entry : Entry) (config : Config) (num
         let packages = same_packages s.config.prefix u.files t.packages u.packages (subst (λ fs. ArePackagesOf s.config.prefix fs t.packages) files one.packages) other.packages in
         let faults = one.faults ∙ ap faults_of files ∙ sym other.faults in
         let postings = one_table (hits_in u.files) t.postings u.postings (subst (λ fs. IsTableOf (hits_in fs) t.postings) files one.postings) other.postings in
-        λ i. tables (files i) (packages i) (faults i) (postings i)
+        λ i. record { files = files i; packages = packages i; faults = faults i; postings = postings i }

@@ -2,15 +2,17 @@
 -- files make up, its faults, and the table of its identifiers. The project's own, over the
 -- definitions of outcomes, of packages (The Go Programming Language Specification, "Packages") and
 -- of hits.
-use Rattle.std.specs.Prelude.{◌≡◌, ℕ, Bool, List, [], Option, Some, None, All, map, filter}
+use Rattle.std.specs.Prelude.{◌≡◌, ℕ, Bool, List, [], Option, Some, None, All, AllPairs, map}
+use Rattle.std.specs.Prelude.{filter}
 use Rattle.std.specs.Prelude.{codes, nat_eq, slice_index, if◌then◌else◌}
-use Rattle.std.specs.List.{ends_with, enumerate_from, filter_map}
+use Rattle.std.specs.List.{ends_with, enumerate_from, filter_map, flat_map}
 use Rattle.go_ast.specs.declared.config.Config.{Config}
 use Rattle.go_ast.specs.declared.fault.Fault.TheVariants.{OtherPackage}
 use Rattle.go_ast.specs.Marks.{text_of}
 use Rattle.tree_io.specs.declared.tree.Entry.{Entry}
 use Rattle.tree_io.specs.declared.tree.Entry.TheVariants.{Bytes}
-use Rattle.ident_index.specs.Postings.{IsTableOf, NamedHit, Posting, named_of_all}
+use Rattle.ident_index.specs.Hits.{IsHitBelow, ReadFile, hits_with_text}
+use Rattle.ident_index.specs.Postings.{IsTableOf, NamedHit, hits_at, named_of_all}
 use Rattle.package_group.specs.declared.facts.FileFact.{FileFact}
 use Rattle.package_group.specs.declared.facts.Grouped.{Grouped}
 use Rattle.package_group.specs.declared.facts.Package.{Package}
@@ -20,6 +22,7 @@ use Rattle.corpus_piece.specs.declared.outcome.Outcome.TheVariants.{Ignored, Fau
 use Rattle.corpus_piece.specs.declared.outcome.Parsed.{Parsed}
 use Rattle.corpus_piece.specs.Pieces.{IsJudged, JudgedFile}
 use Rattle.corpus.specs.declared.faults.FileFault.{FileFault}
+use Rattle.corpus.specs.declared.tables.Tables.{Tables}
 use Rattle.corpus.specs.Snapshots.{IsSnapshot, SourceSet}
 
 -- what a piece is made of: a path, an entry, a configuration and a number
@@ -120,17 +123,6 @@ faults_of files = filter_map (λ f. fault_as files f f.outcome) files
 abbrev pub hits_in : List JudgedFile → List NamedHit
 hits_in files = named_of_all (map (λ a. (a.bytes, a.parsed.hits)) (kept files))
 
--- what is computed from a set of sources: its files with their outcomes, and the tables over them
-pub record Tables : Type 0 where
-  pub files : List JudgedFile
-  pub packages : List Package
-  pub faults : List FileFault
-  pub postings : List Posting
-
-abbrev pub tables : List JudgedFile → List Package → List FileFault → List Posting → Tables
-tables files packages faults postings =
-    record { files = files; packages = packages; faults = faults; postings = postings }
-
 -- the tables are those of the set of sources
 pub record IsCorpusOf (s : SourceSet) (t : Tables) : Type 0 where
   pub files : AreFilesOf s t.files
@@ -151,3 +143,18 @@ edition sources tables = record { sources = sources; tables = tables }
 pub record IsEdition (e : Edition) : Type 0 where
   pub sources : IsSnapshot e.sources
   pub tables : IsCorpusOf e.sources e.tables
+
+-- the reading of an accepted file
+abbrev pub read_of : AcceptedFile → ReadFile
+read_of a = record {
+  source = a.bytes;
+  tokens = a.parsed.scanned.tokens;
+  file = a.parsed.file;
+  number = a.number;
+}
+
+-- under a name the table has a hit for exactly the identifiers with that text of the files that
+-- belong to packages, and the hits rise by file and offset
+pub record HasHitsByName (t : Tables) (name : List ℕ) : Type 0 where
+  pub texts : hits_at t.postings name ≡ flat_map (hits_with_text name) (map read_of (kept t.files))
+  pub rising : AllPairs IsHitBelow (hits_at t.postings name)

@@ -3,6 +3,8 @@
 use Rattle.std.specs.Prelude.{◌≡◌, ℕ, ◌<◌, ◌≤◌, List, All, filter, length, map, not, IsUtf8}
 use Rattle.package_group.specs.declared.facts.Package.{Package}
 use Rattle.corpus.specs.declared.accepted.Accepted.{Accepted}
+use Rattle.corpus.specs.declared.assembly.Made.{Made}
+use Rattle.corpus.specs.declared.tables.Tables.{Tables}
 use Rattle.std.specs.List.Sorted.{IsStrictlySortedBy}
 use Rattle.std.specs.Ordering.{nat_cmp}
 use Rattle.ident_index.specs.declared.hit.Hit.{Hit}
@@ -48,3 +50,12 @@ pub record AreBeside (files : List JudgedFile) (numbers : List ℕ) : Type 0 whe
 -- the bytes of an accepted file next to its hits
 abbrev pub source_of : AcceptedFile → List ℕ × List Hit
 source_of a = (a.bytes, a.parsed.hits)
+
+-- files with their outcomes, and the tables that are made over them
+abbrev pub tables_of : List JudgedFile → Made → Tables
+tables_of files made = record {
+  files = files;
+  packages = made.packages;
+  faults = made.faults;
+  postings = made.postings;
+}

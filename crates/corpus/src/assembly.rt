@@ -3,8 +3,8 @@
 ghost use Rattle.std.specs.Prelude.{◌≡◌, ◌<◌, ◌^◌, All, IfOk, length, map};
 ghost use Rattle.tree_io.specs.Path.{Belongs};
 ghost use Rattle.package_group.specs.Groups.{IsGrouping};
-ghost use Rattle.corpus.specs.Corpora.{AreFilesOf, IsEdition, edition, fact_of, tables};
-ghost use Rattle.corpus.specs.Steps.{HasName, seen};
+ghost use Rattle.corpus.specs.Corpora.{AreFilesOf, IsEdition, edition, fact_of};
+ghost use Rattle.corpus.specs.Steps.{HasName, seen, tables_of};
 
 use crate::accepted::{Accepted, accepted_files, facts};
 use crate::corpus::Corpus;
@@ -13,15 +13,16 @@ use crate::faulty::faults_of;
 use crate::index::index_of;
 use crate::packages::{numbers_of, packages_of};
 use crate::snapshot::Snapshot;
+use crate::tables::Tables;
 use corpus_piece::Piece;
 use go_ast::{Mem, Seq};
 use ident_index::Postings;
 use package_group::{Grouped, Package, group};
 use std::alloc::Global;
 
-/// The tables of a corpus.
+/// What is made over the files of a corpus.
 #[derive(Drop)]
-struct Tables {
+struct Made {
     packages: Seq<Package>,
     faults: Seq<FileFault>,
     postings: Postings,
@@ -40,10 +41,10 @@ fn group_files(alloc: Global, prefix: &str, files: &[Accepted]) -> Mem<Grouped>
 }
 
 /// The tables of a snapshot, whose pieces are these.
-fn make_tables(alloc: Global, snapshot: &Snapshot, pieces: &[Piece]) -> Mem<Tables>
+fn make_tables(alloc: Global, snapshot: &Snapshot, pieces: &[Piece]) -> Mem<Made>
     requires { AreFilesOf snapshot.now pieces.now }
-    ensures { IfOk result (λ made. IsEdition (edition snapshot.now
-        (tables pieces.now made.packages made.faults made.postings))) }
+    ensures { IfOk result (λ made.
+        IsEdition (edition snapshot.now (tables_of pieces.now made))) }
 {
     let files = accepted_files(alloc, snapshot, pieces)?;
     let files = files.as_slice();
@@ -51,7 +52,7 @@ fn make_tables(alloc: Global, snapshot: &Snapshot, pieces: &[Piece]) -> Mem<Tabl
     let Grouped { packages, others } = group_files(alloc, prefix, files)?;
     let beside = numbers_of(files, others);
     let beside = beside.as_slice();
-    Ok(Tables {
+    Ok(Made {
         packages: packages_of(alloc, files, packages)?,
         faults: faults_of(alloc, snapshot, pieces, beside)?,
         postings: index_of(alloc, files, beside)?,
@@ -74,10 +75,16 @@ pub fn assemble(alloc: Global, snapshot: Snapshot, pieces: Seq<Piece>) -> Mem<Co
     ensures files { IfOk result (λ corpus. corpus.tables.files ≡ pieces) }
     ensures tables { IfOk result IsEdition }
 {
-    let Tables {
+    let Made {
         packages,
         faults,
         postings,
     } = make_tables(alloc, &snapshot, pieces.as_slice())?;
-    Ok(Corpus::new(snapshot, pieces, packages, faults, postings))
+    let tables = Tables {
+        files: pieces,
+        packages,
+        faults,
+        postings,
+    };
+    Ok(Corpus::new(snapshot, tables))
 }

@@ -3,12 +3,13 @@
 ghost use Rattle.std.specs.Prelude.{◌≡◌, ◌<◌, Some, length, map, position, slice_get};
 ghost use Rattle.std.specs.Str.{bytes_eq};
 ghost use Rattle.tree_io.specs.Path.{paths_of};
-ghost use Rattle.corpus.specs.Corpora.{IsEdition, edition, tables};
+ghost use Rattle.corpus.specs.Corpora.{IsEdition, edition};
 
 use crate::faults::FileFault;
 use crate::snapshot::Snapshot;
+use crate::tables::Tables;
 use corpus_piece::Piece;
-use go_ast::{Config, Seq};
+use go_ast::Config;
 use ident_index::Postings;
 use package_group::Package;
 use std::marker::Model;
@@ -20,45 +21,29 @@ use tree_io::Entry;
 #[derive(Drop)]
 pub struct Corpus {
     snapshot: Snapshot,
-    pieces: Seq<Piece>,
-    packages: Seq<Package>,
-    faults: Seq<FileFault>,
-    postings: Postings,
+    tables: Tables,
 }
 
 impl Model for Corpus {
     ghost use Rattle.corpus.specs.Codes.{edition_code};
-    ghost use Rattle.corpus.specs.Corpora.{Edition, IsEdition, edition, tables};
+    ghost use Rattle.corpus.specs.Corpora.{Edition, IsEdition, edition};
 
     ghost Value = { Edition };
 
     ghost coded = { edition_code };
 
-    ghost view = { λ c. edition c.snapshot (tables c.pieces c.packages c.faults c.postings) };
+    ghost view = { λ c. edition c.snapshot c.tables };
 
-    ghost invariant = { λ c. IsEdition
-        (edition c.snapshot (tables c.pieces c.packages c.faults c.postings)) };
+    ghost invariant = { λ c. IsEdition (edition c.snapshot c.tables) };
 }
 
 impl Corpus {
     /// The corpus of a snapshot, of which these are the tables.
-    pub(crate) fn new(
-        snapshot: Snapshot,
-        pieces: Seq<Piece>,
-        packages: Seq<Package>,
-        faults: Seq<FileFault>,
-        postings: Postings,
-    ) -> Corpus
-        requires { IsEdition (edition snapshot (tables pieces packages faults postings)) }
-        ensures { result ≡ edition snapshot (tables pieces packages faults postings) }
+    pub(crate) fn new(snapshot: Snapshot, tables: Tables) -> Corpus
+        requires { IsEdition (edition snapshot tables) }
+        ensures { result ≡ edition snapshot tables }
     {
-        Corpus {
-            snapshot,
-            pieces,
-            packages,
-            faults,
-            postings,
-        }
+        Corpus { snapshot, tables }
     }
 
     /// The configuration that the files were read for. It takes no memory.
@@ -98,7 +83,7 @@ impl Corpus {
         requires { number < length self.now.sources.entries }
         ensures { slice_get self.now.tables.files number ≡ Some result.now }
     {
-        &self.pieces.as_slice()[number as usize]
+        &self.tables.files.as_slice()[number as usize]
     }
 
     /// The packages, rising by the bytes of their paths; their files are named by numbers (Go
@@ -106,14 +91,14 @@ impl Corpus {
     pub fn packages(&self) -> &[Package]
         ensures { result.now ≡ self.now.tables.packages }
     {
-        self.packages.as_slice()
+        self.tables.packages.as_slice()
     }
 
     /// The faults of the files, in the order of the files. It takes no memory.
     pub fn faults(&self) -> &[FileFault]
         ensures { result.now ≡ self.now.tables.faults }
     {
-        self.faults.as_slice()
+        self.tables.faults.as_slice()
     }
 
     /// The table of the identifiers of all files that belong to packages; their hits name files by
@@ -121,7 +106,7 @@ impl Corpus {
     pub fn postings(&self) -> &Postings
         ensures { result.now ≡ self.now.tables.postings }
     {
-        &self.postings
+        &self.tables.postings
     }
 
     /// The place of the package with a path, or `None` where no package has it. It looks by
@@ -131,6 +116,7 @@ impl Corpus {
             (map (λ p. p.path) self.now.tables.packages) }
     {
         match self
+            .tables
             .packages
             .as_slice()
             .binary_search_by(|package| package.path.as_str().cmp(path))

@@ -1,7 +1,8 @@
 //! What holds of every corpus.
 
-ghost use Rattle.std.specs.Prelude.{◌≡◌};
-ghost use Rattle.corpus.specs.Corpora.{IsCorpusOf, Tables};
+ghost use Rattle.std.specs.Prelude.{◌≡◌, ℕ, List};
+ghost use Rattle.corpus.specs.declared.tables.Tables.{Tables};
+ghost use Rattle.corpus.specs.Corpora.{HasHitsByName, IsCorpusOf};
 ghost use Rattle.corpus.specs.Snapshots.{SourceSet};
 
 use corpus_piece::one_outcome;
@@ -17,3 +18,10 @@ pub fn one_corpus()
     one_grouping();
     one_table();
 }
+
+/// Under each name the table of a corpus has exactly the identifiers with that text of the files
+/// that belong to packages, rising by file and offset. The call does nothing.
+pub fn hits_by_name()
+    ensures { (s : SourceSet) (t : Tables) (name : List ℕ) → IsCorpusOf s t
+        → HasHitsByName t name }
+{}

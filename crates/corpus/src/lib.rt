@@ -21,9 +21,11 @@ mod index;
 mod laws;
 mod packages;
 mod snapshot;
+mod tables;
 
 pub use assembly::assemble;
 pub use corpus::{Corpus, own_tables};
 pub use faults::FileFault;
-pub use laws::one_corpus;
+pub use laws::{hits_by_name, one_corpus};
 pub use snapshot::{MAX_FILES, MAX_SCAN_BYTES, Snapshot, TooLarge, entry_size};
+pub use tables::Tables;

@@ -1,3 +1,4 @@
 mod AcceptedFiles
 mod OneOutcome
 pub mod OutcomeLaws
+mod OutcomeSteps

@@ -24,8 +24,10 @@ use Rattle.tree_io.specs.declared.tree.Entry.{Entry}
 use Rattle.tree_io.specs.declared.tree.Entry.TheVariants as entries
 use Rattle.corpus_piece.specs.declared.outcome.Outcome.{Outcome}
 use Rattle.corpus_piece.specs.declared.outcome.Outcome.TheVariants.{Ignored, Faulty, Accepted}
-use Rattle.corpus_piece.specs.Outcomes.{IsOutcomeAfter, IsOutcomeOf, IsOutcomeOfBytes}
-use Rattle.corpus_piece.specs.Outcomes.{IsOutcomeOfTokens, parsed_of}
+use Rattle.corpus_piece.specs.Outcomes.{IsOutcomeOf, parsed_of}
+use Rattle.corpus_piece.specs.Steps.{IsFoundOutcome, IsOutcomeAfter, IsOutcomeOfBytes}
+use Rattle.corpus_piece.specs.Steps.{IsOutcomeOfTokens}
+use Rattle.corpus_piece.proofs.OutcomeSteps.{is_found, is_outcome}
 
 -- the laws of the crates below, as their calls give them
 pub record Laws : Type 0 where
@@ -108,17 +110,23 @@ module _ (laws : Laws) where
       (subst (λ vs. IsOutcomeAfter a bytes us vs number x) comments
       (subst (λ vs. IsOutcomeAfter a bytes vs cs number x) tokens p))) q
 
+  one_found : (path : List ℕ) (entry : Entry) (config : Config) (number : ℕ) (x y : Outcome)
+      → IsFoundOutcome path entry config number x → IsFoundOutcome path entry config number y → x ≡ y
+  one_found path entries.Unread config number x y p q = p ∙ sym q
+  one_found path entries.Large config number x y p q = p ∙ sym q
+  one_found path (entries.Bytes bytes) config number x y (inl (m, p)) (inl (n, q)) = p ∙ sym q
+  one_found path (entries.Bytes bytes) config number x y (inl (m, p)) (inr (n, q)) =
+      absurd (omega arith)
+  one_found path (entries.Bytes bytes) config number x y (inr (m, p)) (inl (n, q)) =
+      absurd (omega arith)
+  one_found path (entries.Bytes bytes) config number x y (inr (m, p)) (inr (n, q)) =
+      one_of_bytes path bytes config number x y p q
+
   pub one_outcome : (path : List ℕ) (entry : Entry) (config : Config) (number : ℕ) (x y : Outcome)
       → IsOutcomeOf path entry config number x → IsOutcomeOf path entry config number y → x ≡ y
-  one_outcome path entries.Unread config number x y p q = p ∙ sym q
-  one_outcome path entries.Large config number x y p q = p ∙ sym q
-  one_outcome path (entries.Bytes bytes) config number x y (inl (m, p)) (inl (n, q)) = p ∙ sym q
-  one_outcome path (entries.Bytes bytes) config number x y (inl (m, p)) (inr (n, q)) =
-      absurd (omega arith)
-  one_outcome path (entries.Bytes bytes) config number x y (inr (m, p)) (inl (n, q)) =
-      absurd (omega arith)
-  one_outcome path (entries.Bytes bytes) config number x y (inr (m, p)) (inr (n, q)) =
-      one_of_bytes path bytes config number x y p q
+  one_outcome path entry config number x y p q =
+      one_found path entry config number x y (is_found path entry config number x p)
+      (is_found path entry config number y q)
 
   -- that no build line gives an admission can't be
   some_judgement : (bytes : List ℕ) (config : Config) (by_name : Bool) (lines : List Comment)
@@ -162,12 +170,18 @@ module _ (laws : Laws) where
       (λ f. none (Faulty f.0) (inl (f.0, f.1, refl)))
       (laws.read_or_faulty bytes)
 
-  pub some_outcome : (path : List ℕ) (entry : Entry) (config : Config) (number : ℕ)
-      → ((x : Outcome) → IsOutcomeOf path entry config number x → ⊥) → ⊥
-  some_outcome path entries.Unread config number none = none (Faulty faults.Unread) refl
-  some_outcome path entries.Large config number none = none (Faulty faults.FileTooLarge) refl
-  some_outcome path (entries.Bytes bytes) config number none =
+  some_found : (path : List ℕ) (entry : Entry) (config : Config) (number : ℕ)
+      → ((x : Outcome) → IsFoundOutcome path entry config number x → ⊥) → ⊥
+  some_found path entries.Unread config number none = none (Faulty faults.Unread) refl
+  some_found path entries.Large config number none = none (Faulty faults.FileTooLarge) refl
+  some_found path (entries.Bytes bytes) config number none =
       let small : length bytes ≤ MAX_SOURCE_BYTES =
       ⊎_elim (λ l. absurd (none (Faulty faults.FileTooLarge) (inl (l, refl)))) (λ l. l)
       (cases_lt MAX_SOURCE_BYTES (length bytes)) in
       some_of_bytes path bytes config number (λ x p. none x (inr (small, p)))
+
+  pub some_outcome : (path : List ℕ) (entry : Entry) (config : Config) (number : ℕ)
+      → ((x : Outcome) → IsOutcomeOf path entry config number x → ⊥) → ⊥
+  some_outcome path entry config number none =
+      some_found path entry config number
+      (λ x p. none x (is_outcome path entry config number x p))

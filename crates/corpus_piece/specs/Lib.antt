@@ -5,3 +5,4 @@ pub mod Pieces
 pub mod Accepted
 pub mod Codes
 pub mod Refusals
+pub mod Steps

@@ -1,9 +1,9 @@
--- Cited by public clauses. What becomes of a file of a tree: the first that applies of its faults,
--- of the reasons to pass it over, and of its one file. The project's own, over the definitions of
--- readings, build lines and declarations.
-use Rattle.std.specs.Prelude.{◌≡◌, ◌⊎◌, ℕ, ◌<◌, ◌≤◌, List, length}
+-- Cited by public clauses. What becomes of a file of a tree: a fault, excluded, or its one file. The
+-- project's own, over the definitions of readings, build lines and declarations.
+use Rattle.std.specs.Prelude.{◌≡◌, ℕ, ◌<◌, ◌≤◌, List, length}
 use Rattle.build_lines.specs.declared.admission.Admission.{Admission}
 use Rattle.build_lines.specs.declared.admission.Admission.TheVariants as admissions
+use Rattle.build_lines.specs.declared.admission.Why.{Why}
 use Rattle.build_lines.specs.Admissions.{IsAdmission}
 use Rattle.go_ast.specs.declared.config.Config.{Config}
 use Rattle.go_ast.specs.declared.declaration.File.{File}
@@ -31,34 +31,40 @@ parsed_of bytes tokens comments file number = record {
   hits = hits_of bytes tokens file number;
 }
 
--- of a source that is read so and let in: the fault of its tokens, or else the file that they spell
-abbrev pub IsOutcomeOfTokens : List ℕ → List Token → List Comment → ℕ → Outcome → Type 0
-IsOutcomeOfTokens bytes tokens comments number outcome =
-    ((fault : Fault) × FileFault bytes tokens fault × (outcome ≡ Faulty fault))
-    ⊎ ((file : File) × SpellsFile bytes tokens file
-    × (outcome ≡ Accepted (parsed_of bytes tokens comments file number)))
+-- the file has these bytes, no more than a source may have, which are read so, and this is what its
+-- name and its build lines say
+pub record IsReadFor (path : List ℕ) (entry : Entry) (config : Config) (bytes : List ℕ)
+    (tokens : List Token) (comments : List Comment) (admission : Admission) : Type 0 where
+  pub entry_is : entry ≡ entries.Bytes bytes
+  pub small : length bytes ≤ MAX_SOURCE_BYTES
+  pub reads : Reads bytes tokens comments
+  pub admitted : IsAdmission path bytes tokens comments config admission
 
--- of a source that is read so, after what its build lines and its name say
-abbrev pub IsOutcomeAfter : Admission → List ℕ → List Token → List Comment → ℕ → Outcome → Type 0
-IsOutcomeAfter (admissions.BadBuildLine line) bytes tokens comments number outcome =
-    outcome ≡ Faulty (faults.BadBuildLine line)
-IsOutcomeAfter (admissions.Ignored why) bytes tokens comments number outcome = outcome ≡ Ignored why
-IsOutcomeAfter admissions.Admitted bytes tokens comments number outcome =
-    IsOutcomeOfTokens bytes tokens comments number outcome
-
--- of the bytes of a file at a path: the fault of a source that has no reading comes before all that
--- is said of tokens
-abbrev pub IsOutcomeOfBytes : List ℕ → List ℕ → Config → ℕ → Outcome → Type 0
-IsOutcomeOfBytes path bytes config number outcome =
-    ((fault : Fault) × ScanFault bytes fault × (outcome ≡ Faulty fault))
-    ⊎ ((tokens : List Token) × (comments : List Comment) × (admission : Admission)
-    × Reads bytes tokens comments × IsAdmission path bytes tokens comments config admission
-    × IsOutcomeAfter admission bytes tokens comments number outcome)
-
--- of a file at a path, by what a scan of the tree has of it
-abbrev pub IsOutcomeOf : List ℕ → Entry → Config → ℕ → Outcome → Type 0
-IsOutcomeOf path entries.Unread config number outcome = outcome ≡ Faulty faults.Unread
-IsOutcomeOf path entries.Large config number outcome = outcome ≡ Faulty faults.FileTooLarge
-IsOutcomeOf path (entries.Bytes bytes) config number outcome =
-    ((MAX_SOURCE_BYTES < length bytes) × (outcome ≡ Faulty faults.FileTooLarge))
-    ⊎ ((length bytes ≤ MAX_SOURCE_BYTES) × IsOutcomeOfBytes path bytes config number outcome)
+-- of a file at a path, by what a scan of the tree has of it, for a configuration and under a number.
+-- Each line holds where none above it does
+pub data IsOutcomeOf (path : List ℕ) (entry : Entry) (config : Config) (number : ℕ)
+    (outcome : Outcome) : Type 0 where
+  unread : entry ≡ entries.Unread → outcome ≡ Faulty faults.Unread
+      → IsOutcomeOf path entry config number outcome
+  large : entry ≡ entries.Large → outcome ≡ Faulty faults.FileTooLarge
+      → IsOutcomeOf path entry config number outcome
+  oversized : (bytes : List ℕ) → entry ≡ entries.Bytes bytes → MAX_SOURCE_BYTES < length bytes
+      → outcome ≡ Faulty faults.FileTooLarge → IsOutcomeOf path entry config number outcome
+  unreadable : (bytes : List ℕ) (fault : Fault) → entry ≡ entries.Bytes bytes
+      → length bytes ≤ MAX_SOURCE_BYTES → ScanFault bytes fault → outcome ≡ Faulty fault
+      → IsOutcomeOf path entry config number outcome
+  bad_build_line : (bytes : List ℕ) (tokens : List Token) (comments : List Comment) (line : ℕ)
+      → IsReadFor path entry config bytes tokens comments (admissions.BadBuildLine line)
+      → outcome ≡ Faulty (faults.BadBuildLine line) → IsOutcomeOf path entry config number outcome
+  ignored : (bytes : List ℕ) (tokens : List Token) (comments : List Comment) (why : Why)
+      → IsReadFor path entry config bytes tokens comments (admissions.Ignored why)
+      → outcome ≡ Ignored why → IsOutcomeOf path entry config number outcome
+  misspelled : (bytes : List ℕ) (tokens : List Token) (comments : List Comment) (fault : Fault)
+      → IsReadFor path entry config bytes tokens comments admissions.Admitted
+      → FileFault bytes tokens fault → outcome ≡ Faulty fault
+      → IsOutcomeOf path entry config number outcome
+  accepted : (bytes : List ℕ) (tokens : List Token) (comments : List Comment) (file : File)
+      → IsReadFor path entry config bytes tokens comments admissions.Admitted
+      → SpellsFile bytes tokens file
+      → outcome ≡ Accepted (parsed_of bytes tokens comments file number)
+      → IsOutcomeOf path entry config number outcome

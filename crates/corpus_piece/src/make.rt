@@ -5,8 +5,9 @@ ghost use Rattle.go_ast.specs.declared.token.TheConstants.{MAX_SOURCE_BYTES};
 ghost use Rattle.go_ast.specs.Position.{line_starts};
 ghost use Rattle.go_ast.specs.Reading.{Reads};
 ghost use Rattle.go_scanner.specs.Results.{AreInOrder};
-ghost use Rattle.corpus_piece.specs.Outcomes.{IsOutcomeOf, IsOutcomeOfBytes, IsOutcomeOfTokens};
+ghost use Rattle.corpus_piece.specs.Outcomes.{IsOutcomeOf};
 ghost use Rattle.corpus_piece.specs.Refusals.{IsRefusalOf};
+ghost use Rattle.corpus_piece.specs.Steps.{IsFoundOutcome, IsOutcomeOfBytes, IsOutcomeOfTokens};
 
 use crate::outcome::{Outcome, Parsed};
 use crate::piece::Piece;
@@ -114,7 +115,7 @@ fn outcome_of(
     config: &Config,
     number: u32,
 ) -> Mem<Outcome>
-    ensures { IfOk result (IsOutcomeOf path.now entry.now config.now number) }
+    ensures { IfOk result (IsFoundOutcome path.now entry.now config.now number) }
 {
     match entry {
         Entry::Unread => Ok(Outcome::Faulty(Fault::Unread)),

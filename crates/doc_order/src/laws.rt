@@ -1,8 +1,11 @@
 //! Laws of the documentation's definition, which no caller has to run.
 
-ghost use Rattle.std.specs.Prelude.{◌≡◌, ℕ, false, None, Option, Some, IsTrue};
+ghost use Rattle.std.specs.Prelude.{◌≡◌, ℕ, false, List, None, Option, Some, IsTrue};
+ghost use Rattle.doc_order.specs.declared.members.DocPackage.{DocPackage};
 ghost use Rattle.doc_order.specs.declared.members.Kind.{Kind};
 ghost use Rattle.doc_order.specs.declared.members.Kind.TheVariants.{Methods, Types};
+ghost use Rattle.doc_order.specs.declared.members.Member.{Member};
+ghost use Rattle.doc_order.specs.Documentation.{IsDocOf};
 ghost use Rattle.doc_order.specs.Documentation.{at_number, is_shown, kind_of, place_of, stands_in};
 ghost use Rattle.doc_order.specs.Documentation.{type_of};
 
@@ -23,4 +26,11 @@ pub fn shown_members_stand_in_one_list(members: &[Member], member: &Member)
     ensures listed { let types = type_of members.now in
         (number : ℕ) → place_of types member.now ≡ Some number
         → IsTrue (at_number (stands_in types Types None) false members.now number) }
+{}
+
+/// Members have at most one documentation, as the clause says for all lists of members. The call
+/// does nothing.
+pub fn one_documentation()
+    ensures { (members : List Member) (doc other : DocPackage) → IsDocOf members doc
+        → IsDocOf members other → doc ≡ other }
 {}

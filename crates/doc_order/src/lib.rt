@@ -20,6 +20,6 @@ mod names;
 mod place;
 mod values;
 
-pub use laws::shown_members_stand_in_one_list;
+pub use laws::{one_documentation, shown_members_stand_in_one_list};
 pub use listing::order;
 pub use members::{DocPackage, DocType, Kind, Member, SpecFact};
