@@ -6,12 +6,9 @@ use Rattle.std.specs.Str.{IsUtf8, IsValidUpTo, is_utf8}
 use Rattle.std.proofs.lemmas.List.{take_all}
 use Rattle.std.proofs.lemmas.List.Elements.{All-cons, All-head, All-nil, All-tail, All-weaker}
 use Rattle.std.proofs.lemmas.Str.{IsUtf8-from_is_utf8, is_utf8-from_IsUtf8}
-use Rattle.build_lines.specs.declared.admission.Admission.{Admission}
-use Rattle.build_lines.specs.declared.admission.Admission.TheVariants as admissions
 use Rattle.go_ast.specs.declared.config.Config.{Config}
 use Rattle.go_ast.specs.declared.fault.Fault.{Fault}
 use Rattle.go_ast.specs.declared.fault.Fault.TheVariants as kinds
-use Rattle.go_ast.specs.declared.token.Comment.{Comment}
 use Rattle.go_ast.specs.declared.token.Token.{Token}
 use Rattle.go_ast.specs.Files.{FileFault as FileFaultOf}
 use Rattle.go_ast.specs.Reading.{ScanFault}
@@ -21,11 +18,13 @@ use Rattle.corpus_piece.specs.declared.outcome.Outcome.{Outcome}
 use Rattle.corpus_piece.specs.declared.outcome.Outcome.TheVariants.{Accepted, Faulty, Ignored}
 use Rattle.corpus_piece.specs.declared.outcome.Parsed.{Parsed}
 use Rattle.corpus_piece.specs.Accepted.{IsAccepted}
-use Rattle.corpus_piece.specs.Outcomes.{IsOutcomeAfter, IsOutcomeOf}
+use Rattle.corpus_piece.specs.Outcomes.{IsOutcomeOf, unread, large, oversized, unreadable}
+use Rattle.corpus_piece.specs.Outcomes.{bad_build_line, ignored, misspelled, accepted}
 use Rattle.corpus_piece.specs.Pieces.{IsJudged, JudgedFile}
 use Rattle.corpus_piece.proofs.OutcomeLaws.{accepted_read}
-use Rattle.corpus.specs.Corpora.{AcceptedFile, Input, IsCorpusOf, Tables, accepted_file, fault_as, input_of, is_kept, other_package}
+use Rattle.corpus.specs.Corpora.{AcceptedFile, Input, IsCorpusOf, accepted_file, fault_as, input_of, is_kept, other_package}
 use Rattle.corpus.specs.declared.faults.FileFault.{FileFault}
+use Rattle.corpus.specs.declared.tables.Tables.{Tables}
 use Rattle.corpus.specs.Snapshots.{SourceSet}
 use Rattle.godoc_commands.specs.Pages.{SaysPage, entry_at, has_page}
 
@@ -75,29 +74,24 @@ module _ (entry : Entry) (fault : Fault) where
       let is : fault ≡ other = cc in
       subst (λ f. SaysPage f entry) (sym is) h
 
-after_says : (bytes : List ℕ) (number : ℕ) (admission : Admission) (tokens : List Token)
-    (comments : List Comment) (fault : Fault) → IsUtf8 bytes
-    → IsOutcomeAfter admission bytes tokens comments number (Faulty fault)
-    → SaysPage fault (entries.Bytes bytes)
-after_says bytes number (admissions.BadBuildLine line) tokens comments fault u p =
-    carried (entries.Bytes bytes) fault (kinds.BadBuildLine line) p (is_utf8-from_IsUtf8 bytes u)
-after_says bytes number (admissions.Ignored why) tokens comments fault u p = grind arith
-after_says bytes number admissions.Admitted tokens comments fault u (inl (f, s, p)) =
-    carried (entries.Bytes bytes) fault f p (file_says bytes tokens f u s)
-after_says bytes number admissions.Admitted tokens comments fault u (inr (f, s, p)) = grind arith
-
 outcome_says : (path : List ℕ) (entry : Entry) (config : Config) (number : ℕ) (fault : Fault)
     → IsOutcomeOf path entry config number (Faulty fault) → SaysPage fault entry
-outcome_says path entries.Unread config number fault p = carried entries.Unread fault kinds.Unread p tt
-outcome_says path entries.Large config number fault p =
-    carried entries.Large fault kinds.FileTooLarge p tt
-outcome_says path (entries.Bytes bytes) config number fault (inl (n, p)) =
-    carried (entries.Bytes bytes) fault kinds.FileTooLarge p tt
-outcome_says path (entries.Bytes bytes) config number fault (inr (n, inl (f, s, p))) =
-    carried (entries.Bytes bytes) fault f p (scan_says bytes f s)
-outcome_says path (entries.Bytes bytes) config number fault
-    (inr (n, inr (tokens, comments, admission, r, j, p))) =
-    after_says bytes number admission tokens comments fault r.utf8 p
+outcome_says path entry config number fault (unread e p) = carried entry fault kinds.Unread p tt
+outcome_says path entry config number fault (large e p) =
+    carried entry fault kinds.FileTooLarge p tt
+outcome_says path entry config number fault (oversized bytes e n p) =
+    carried entry fault kinds.FileTooLarge p tt
+outcome_says path entry config number fault (unreadable bytes f e n s p) =
+    carried entry fault f p (subst (SaysPage f) (sym e) (scan_says bytes f s))
+outcome_says path entry config number fault (bad_build_line bytes tokens comments line r p) =
+    carried entry fault (kinds.BadBuildLine line) p
+    (subst (SaysPage (kinds.BadBuildLine line)) (sym r.entry_is)
+    (is_utf8-from_IsUtf8 bytes r.reads.utf8))
+outcome_says path entry config number fault (ignored bytes tokens comments why r p) = cc
+outcome_says path entry config number fault (misspelled bytes tokens comments f r s p) =
+    carried entry fault f p
+    (subst (SaysPage f) (sym r.entry_is) (file_says bytes tokens f r.reads.utf8 s))
+outcome_says path entry config number fault (accepted bytes tokens comments file r s p) = cc
 
 -- an accepted file has a page
 accepted_has_page : (entry : Entry) (number : ℕ) (parsed : Parsed) → IsAccepted entry number parsed

@@ -2,12 +2,10 @@
 use Rattle.std.specs.Prelude.{◌≡◌, ◌≢◌, ℕ, ◌⊎◌, ◌↔◌, Bool, IsTrue, List, [], ◌∷◌, replicate, Option, IfSome, ⊤}
 use Rattle.corpus.specs.Corpora.{Edition, IsEdition}
 use Rattle.go_ast.specs.declared.config.Config.{Config}
-use Rattle.http_wire.specs.declared.request.Request.{Request}
-use Rattle.http_wire.specs.Requests.{Requests, StreamEnd}
 use Rattle.link_io.specs.Streams.{Takes, Adds}
 use Rattle.session.specs.declared.session_end.SessionEnd.{SessionEnd}
 use Rattle.session.specs.declared.session_end.SessionEnd.TheVariants as ends
-use Rattle.session.specs.Session.{IsAnswered}
+use Rattle.session.specs.Session.{Exchange}
 use Rattle.tree_io.specs.Entries.{IsScannedFrom}
 use Rattle.tree_io.specs.Scans.{OpensScan}
 use Rattle.godoc_commands.specs.declared.status.Status.{Status}
@@ -27,7 +25,7 @@ pub record IsEditionOf {T : Type 0} (config : Config) (tree : Change T TreeState
   pub own : IsEdition edition
 
 -- What a session over the history of this one edition did: the bytes that remain and are held,
--- where the two ends tell them, before it and after it, and how it ended.
+-- where the two ends expose them, before it and after it, and how it ended.
 pub record Serves (edition : Edition) (remaining remaining_after : Option (List ℕ))
     (held held_after : Option (List ℕ)) (result : SessionEnd) : Type 0 where
   -- the bytes read and written, how many requests have an entry, and whether the input ended
@@ -40,10 +38,8 @@ pub record Serves (edition : Edition) (remaining remaining_after : Option (List 
   -- the input ended where nothing remains, unless a read failed
   pub end_is : IfSome remaining_after
       (λ rest. IsTrue ended ↔ ((rest ≡ []) × (result ≢ ends.ReadFault)))
-  -- the stream has one list of requests and one end, and what was written answers them, by the
-  -- edition with number 1
-  pub answers : (requests : List Request) (end : StreamEnd) → Requests read ended requests end
-      → IsAnswered reply_of (edition ∷ []) requests end (replicate count 1) written result
+  -- what was read and written, in which order, by the edition with number 1
+  pub exchange : Exchange reply_of (edition ∷ []) read written ended (replicate count 1) result
 
 -- the status that a session's end gives
 abbrev pub status_after : SessionEnd → Status
