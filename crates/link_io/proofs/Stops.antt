@@ -4,7 +4,7 @@ use Rattle.std.proofs.Math.Seq.{take-append_seam}
 use Rattle.std.proofs.lemmas.List.{drop-drop, drop_all, length-drop, length-take-le, take-append-drop}
 use Rattle.std.proofs.lemmas.Bool.{cond_both, false≢true, ltb-true}
 use Rattle.std.proofs.lemmas.Bool.Decides.{nat_tests}
-use Rattle.link_io.specs.Memory.{cuts_behind}
+use Rattle.link_io.specs.Memory.{cuts_after}
 
 -- the least of some cuts and an end
 pub least-le : (cuts : List ℕ) (end : ℕ) → fold min end cuts ≤ end
@@ -12,7 +12,7 @@ least-le [] end = omega arith
 least-le (cut ∷ cuts) end = omega (arith, least-le cuts (min end cut))
 
 -- cuts after some bytes leave room
-pub least-positive : (position : ℕ) (cuts : List ℕ) (end : ℕ) → 0 < end → 0 < fold min end (cuts_behind position cuts)
+pub least-positive : (position : ℕ) (cuts : List ℕ) (end : ℕ) → 0 < end → 0 < fold min end (cuts_after position cuts)
 least-positive position [] end h = h
 least-positive position (cut ∷ cuts) end h =
     cond_both (ltb position cut) (cut ∷ filter (ltb position) cuts) (filter (ltb position) cuts) (λ rest. 0 < fold min end (map (λ (c : ℕ). c - position) rest))
@@ -31,12 +31,12 @@ first_cut whole rest is_behind front cut all some false true _ same _ more =
 first_cut whole rest is_behind front cut all some false false _ _ _ more = more
 
 -- cuts after some bytes, and after some more
-pub cuts_behind-more : (cuts : List ℕ) (position n : ℕ) → cuts_behind (position + n) cuts ≡ cuts_behind n (cuts_behind position cuts)
-cuts_behind-more [] position n = refl
-cuts_behind-more (cut ∷ cuts) position n =
+pub cuts_after-more : (cuts : List ℕ) (position n : ℕ) → cuts_after (position + n) cuts ≡ cuts_after n (cuts_after position cuts)
+cuts_after-more [] position n = refl
+cuts_after-more (cut ∷ cuts) position n =
     first_cut (λ c. c - (position + n)) (λ c. c - n) (ltb n) (λ c. c - position) cut
     (filter (ltb (position + n)) cuts) (filter (ltb position) cuts) (ltb (position + n) cut) (ltb position cut)
-    (grind (arith, nat_tests)) (grind (arith, nat_tests)) (omega arith) (cuts_behind-more cuts position n)
+    (grind (arith, nat_tests)) (grind (arith, nat_tests)) (omega arith) (cuts_after-more cuts position n)
 
 pub drop-more : (bytes : List ℕ) (position n : ℕ) → drop (position + n) bytes ≡ drop n (drop position bytes)
 drop-more bytes position n = sym (drop-drop n position bytes)
