@@ -23,10 +23,10 @@ pub trait Source {
     /// lent them knows what became of the values they refer to.
     ghost references: { Self → List ℕ } = { λ _. [] };
 
-    /// Moves the first bytes that remain to the beginning of a buffer, and returns how many, at most
-    /// the buffer's length. `Ok(0)` for a buffer that isn't empty is the end of the input: if the
-    /// bytes are exposed, it comes if and only if none remain. What follows the bytes in the buffer
-    /// may change.
+    /// Moves the first bytes that remain to the beginning of a buffer, and returns how many, at
+    /// most the buffer's length. `Ok(0)` for a buffer that isn't empty is the end of the input: if
+    /// the bytes are exposed, it comes if and only if none remain. What follows the bytes in the
+    /// buffer may change.
     ///
     /// # Errors
     ///

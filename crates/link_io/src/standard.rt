@@ -1,5 +1,5 @@
-//! The standard streams of a program. They expose no bytes: here is the edge that a proof trusts, and
-//! it decides nothing but what [`settled`] and [`with_progress`] say.
+//! The standard streams of a program. They expose no bytes: here is the edge that a proof trusts,
+//! and it decides nothing but what [`settled`] and [`with_progress`] say.
 
 ghost use Rattle.std.specs.Prelude.{◌≡◌, ◌<◌, length, IfOk, None};
 ghost use Rattle.std.specs.Io.{ReadsAtMost, WritesAtMost};
@@ -140,8 +140,8 @@ pub(crate) fn read_from<R: Read>(reader: &mut R, buf: &mut [u8]) -> Result<usize
     Err(Failed)
 }
 
-/// Writes until a signal doesn't interrupt the write. A write of no byte of a piece that has some is
-/// a failure.
+/// Writes until a signal doesn't interrupt the write. A write of no byte of a piece that has some
+/// is a failure.
 pub(crate) fn write_to<W: Write>(writer: &mut W, piece: &[u8]) -> Result<usize, Failed>
     ensures count { WritesAtMost result piece.now }
     ensures progress { IfOk result (λ n. 0 < length piece.now → 0 < n) }
