@@ -38,7 +38,8 @@ not_absolute target lacks =
   where
     by : (b : Bool) → starts_with nat_eq target (codes "http://") ≡ b → b ≡ false
     by true is = absurd
-        (lacks (drop 7 target) ((starts_is Decides-eqb target (codes "http://") true (sym is)).0 refl))
+        (lacks (drop 7 target)
+        ((starts_is Decides-eqb target (codes "http://") true (sym is)).0 refl))
     by false is = refl
 
 pub without_slash_some : (text front : List ℕ) → text ≡ front ++ 47 ∷ [] → front
