@@ -17,11 +17,14 @@ or_true : (x y : Bool) → y ≡ true → (x || y) ≡ true
 or_true true y is = refl
 or_true false y is = is
 
-line_feed_after : (xs ys : List ℕ) → list_any is_line_feed ys ≡ true → list_any is_line_feed (xs ++ ys) ≡ true
+line_feed_after : (xs ys : List ℕ) → list_any is_line_feed ys ≡ true
+    → list_any is_line_feed (xs ++ ys) ≡ true
 line_feed_after xs ys has =
-    list_any-append is_line_feed xs ys ∙ or_true (list_any is_line_feed xs) (list_any is_line_feed ys) has
+    list_any-append is_line_feed xs ys ∙ or_true (list_any is_line_feed xs)
+    (list_any is_line_feed ys) has
 
-line_feed_in_end : (end : LineEnd) (rest : List ℕ) → list_any is_line_feed (print_end end ++ rest) ≡ true
+line_feed_in_end : (end : LineEnd) (rest : List ℕ) → list_any is_line_feed (print_end end ++ rest)
+    ≡ true
 line_feed_in_end crlf rest = refl
 line_feed_in_end lf rest = refl
 
@@ -51,7 +54,8 @@ line_in_request head token =
     (line_feed_after target (version ++ (end ++ section))
     (line_feed_after version (end ++ section) (line_feed_in_end head.line_end section))))
 
-line_with_request : (rest : List ℕ) (head : RequestHead) (after : List ℕ) → ReadsRequest rest head after
+line_with_request : (rest : List ℕ) (head : RequestHead) (after : List ℕ)
+    → ReadsRequest rest head after
     → has_line rest ≡ true
 line_with_request rest head after reads =
     subst (λ w. has_line w ≡ true) (sym reads.1)
@@ -124,7 +128,8 @@ undecided_if_longer rest [] head none reads =
     absurd (none head [] (subst (λ w. ReadsRequest w head []) (append-nil rest) reads))
 undecided_if_longer rest (b ∷ more) head none reads = inr (b, more, head, reads)
 
-pub undecided_if_partial : (rest : List ℕ) → HasNoRequest rest → MayBecomeRequest rest → IsUndecided rest
+pub undecided_if_partial : (rest : List ℕ) → HasNoRequest rest → MayBecomeRequest rest
+    → IsUndecided rest
 undecided_if_partial rest none may =
     ⊎_elim (λ longer. undecided_if_longer rest longer.0 longer.1 none longer.2)
     (λ inside. inl (no_line_in_target rest inside)) may

@@ -12,30 +12,41 @@ head_is_long : (head : RequestHead) → 0 < length (print_request head)
 unfolding print_request
 head_is_long head = simp length-append (omega arith)
 
-after_is_shorter : (rest : List ℕ) (request : Request) (after : List ℕ) → BeginsWith rest request after
+after_is_shorter : (rest : List ℕ) (request : Request) (after : List ℕ)
+    → BeginsWith rest request after
     → length after < length rest
 after_is_shorter rest request after x =
     let text = print_request x.head in
-    let whole : length rest ≡ length text + length after = ap length x.reads.1 ∙ length-append text after in
+    let whole : length rest ≡ length text + length after = ap length x.reads.1
+    ∙ length-append text after in
     omega (arith, head_is_long x.head)
 
 -- ---- a rest that begins with no head
 
 -- a head that is longer than the rest
-beyond : (rest more : List ℕ) (head : RequestHead) (after : List ℕ) → ReadsRequest (rest ++ more) head after
+beyond : (rest more : List ℕ) (head : RequestHead) (after : List ℕ)
+    → ReadsRequest (rest ++ more) head after
     → length rest < length (print_request head) → CanBecomeHead rest
 beyond rest more head after reads long =
     let text = print_request head in
-    let tail : text ≡ rest ++ drop (length rest) text = front_within text after rest more (sym reads.1) (omega arith) in
+    let tail : text ≡ rest ++ drop (length rest) text =
+    front_within text after rest more (sym reads.1) (omega arith) in
     by_tail (drop (length rest) text) tail
   where
     by_tail : (tail : List ℕ) → print_request head ≡ rest ++ tail → CanBecomeHead rest
     by_tail [] is =
-        let size : length (print_request head) ≡ length rest + 0 = ap length is ∙ length-append rest [] in
+        let size : length (print_request head) ≡ length rest + 0 = ap length is
+        ∙ length-append rest [] in
         absurd (omega arith)
-    by_tail (b ∷ tail) is = (b, tail, head, (reads.0, sym is ∙ sym (append-nil (print_request head))))
+    by_tail (b ∷ tail) is = (
+      b,
+      tail,
+      head,
+      (reads.0, sym is ∙ sym (append-nil (print_request head))),
+    )
 
-never_otherwise : (rest : List ℕ) → HasNoHead rest → (IsRefused rest false → ⊥) → (CanBecomeHead rest → ⊥)
+never_otherwise : (rest : List ℕ) → HasNoHead rest → (IsRefused rest false → ⊥)
+    → (CanBecomeHead rest → ⊥)
     → NeverHasRequest rest
 never_otherwise rest no_head sound cannot more head after reads =
     let text = print_request head in
@@ -43,7 +54,8 @@ never_otherwise rest no_head sound cannot more head after reads =
     (λ short.
     let reads_here : ReadsRequest rest head (drop (length text) rest) =
     (reads.0, front_within rest more text after reads.1 short) in
-    sound (breaks_rule (head, drop (length text) rest, reads_here, no_head head (drop (length text) rest) reads_here)))
+    sound (breaks_rule
+    (head, drop (length text) rest, reads_here, no_head head (drop (length text) rest) reads_here)))
     (cases_lt (length rest) (length text))
 
 at_clean_end : (rest : List ℕ) → HasNoHead rest
@@ -53,7 +65,8 @@ at_clean_end rest no_head none =
     ⊎_elim (λ short. by_test short sound (has_other_byte rest) refl) (λ long. sound (too_long long))
     (cases_lt (length rest) 8192)
   where
-    by_test : length rest < 8192 → (IsRefused rest true → ⊥) → (other : Bool) → has_other_byte rest ≡ other → ⊥
+    by_test : length rest < 8192 → (IsRefused rest true → ⊥) → (other : Bool) → has_other_byte rest
+        ≡ other → ⊥
     by_test short sound true is = sound (cut_off refl is)
     by_test short sound false is = none [] Clean (ends rest (record { short = short; blank = is }))
 
@@ -64,7 +77,8 @@ at_open_end rest no_head none =
     ⊎_elim (λ short. by_line short sound (has_line rest) refl) (λ long. sound (too_long long))
     (cases_lt (length rest) 8192)
   where
-    by_line : length rest < 8192 → (IsRefused rest false → ⊥) → (line : Bool) → has_line rest ≡ line → ⊥
+    by_line : length rest < 8192 → (IsRefused rest false → ⊥) → (line : Bool) → has_line rest ≡ line
+        → ⊥
     by_line short sound false is =
         none [] Unfinished (waits rest (record { short = short; undecided = inl is }))
     by_line short sound true is =
@@ -85,7 +99,8 @@ has_requests_within zero rest ended short none = omega arith
 has_requests_within (suc most) rest ended short none =
     let stands_not : StandsHead rest → ⊥ =
     λ stands.
-    has_requests_within most stands.1 ended (omega (arith, after_is_shorter rest stands.0 stands.1 stands.2))
+    has_requests_within most stands.1 ended
+    (omega (arith, after_is_shorter rest stands.0 stands.1 stands.2))
     (λ requests end all. none (stands.0 ∷ requests) end
     (next rest ended stands.0 stands.1 requests end stands.2 all)) in
     none_without_head rest ended

@@ -14,29 +14,36 @@ pub no_field : NameAndValue
 no_field = ([], [])
 
 -- the field at a place is what the span at that place covers
-field_at : (buffer : List ℕ) (spans : List HeaderSpan) (i : ℕ) (span : HeaderSpan) → i < length spans
+field_at : (buffer : List ℕ) (spans : List HeaderSpan) (i : ℕ) (span : HeaderSpan)
+    → i < length spans
     → get_or (fields_at buffer spans) i no_field ≡ header_bytes buffer (get_or spans i span)
 field_at buffer spans i span inside = get_or-map (header_bytes buffer) spans i span no_field inside
 
-fits : (buffer : List ℕ) (spans : List HeaderSpan) (i : ℕ) → i < length spans → i < length (fields_at buffer spans)
+fits : (buffer : List ℕ) (spans : List HeaderSpan) (i : ℕ) → i < length spans
+    → i < length (fields_at buffer spans)
 fits buffer spans i inside = rw (length-map spans (header_bytes buffer)) inside
 
 -- one more field is counted
-pub count_more : (name buffer : List ℕ) (spans : List HeaderSpan) (i : ℕ) (span : HeaderSpan) (answer : Bool) (count new : ℕ)
+pub count_more : (name buffer : List ℕ) (spans : List HeaderSpan) (i : ℕ) (span : HeaderSpan)
+    (answer : Bool) (count new : ℕ)
     → i < length spans → answer ≡ is_named name (header_bytes buffer (get_or spans i span))
-    → count ≡ count_named name (take i (fields_at buffer spans)) → new ≡ cond answer (count + 1) count
+    → count ≡ count_named name (take i (fields_at buffer spans)) → new
+    ≡ cond answer (count + 1) count
     → new ≡ count_named name (take (i + 1) (fields_at buffer spans))
 count_more name buffer spans i span true count new inside is before now =
     now ∙ ap (λ n. n + 1) before ∙ sym
-    (count_by_more_yes (is_named name) (fields_at buffer spans) i no_field (fits buffer spans i inside)
+    (count_by_more_yes (is_named name) (fields_at buffer spans) i no_field
+    (fits buffer spans i inside)
     (ap (is_named name) (field_at buffer spans i span inside) ∙ sym is))
 count_more name buffer spans i span false count new inside is before now =
     now ∙ before ∙ sym
-    (count_by_more_no (is_named name) (fields_at buffer spans) i no_field (fits buffer spans i inside)
+    (count_by_more_no (is_named name) (fields_at buffer spans) i no_field
+    (fits buffer spans i inside)
     (ap (is_named name) (field_at buffer spans i span inside) ∙ sym is))
 
 -- one field settles the answer
-pub any_here : (test : NameAndValue → Bool) (buffer : List ℕ) (spans : List HeaderSpan) (i : ℕ) (span : HeaderSpan) (answer : Bool)
+pub any_here : (test : NameAndValue → Bool) (buffer : List ℕ) (spans : List HeaderSpan) (i : ℕ)
+    (span : HeaderSpan) (answer : Bool)
     → i < length spans → answer ≡ test (header_bytes buffer (get_or spans i span)) → answer ≡ true
     → list_any test (fields_at buffer spans) ≡ true
 any_here test buffer spans i span answer inside is passes =
@@ -44,7 +51,8 @@ any_here test buffer spans i span answer inside is passes =
     (ap test (field_at buffer spans i span inside) ∙ sym is ∙ passes)
 
 -- one more field doesn't pass
-pub none_more : (test : NameAndValue → Bool) (buffer : List ℕ) (spans : List HeaderSpan) (i : ℕ) (span : HeaderSpan) (answer : Bool)
+pub none_more : (test : NameAndValue → Bool) (buffer : List ℕ) (spans : List HeaderSpan) (i : ℕ)
+    (span : HeaderSpan) (answer : Bool)
     → i < length spans → answer ≡ test (header_bytes buffer (get_or spans i span)) → answer ≡ false
     → list_any test (take i (fields_at buffer spans)) ≡ false
     → list_any test (take (i + 1) (fields_at buffer spans)) ≡ false
@@ -65,10 +73,12 @@ pub commas_at : (text : List ℕ) (i : ℕ) → i < length text → get_or text 
     → between_commas text ≡ take i text ∷ between_commas (drop (suc i) text)
 unfolding between_commas
 commas_at [] i inside comma before = absurd (omega arith)
-commas_at (b ∷ bytes) zero inside comma before = slice_split-cons_yes (λ x. x == 44) b bytes (eq-eqb b 44 comma)
+commas_at (b ∷ bytes) zero inside comma before = slice_split-cons_yes (λ x. x == 44) b bytes
+    (eq-eqb b 44 comma)
 commas_at (b ∷ bytes) (suc i) inside comma before =
     slice_split-cons_no (λ x. x == 44) b bytes (before 0 (omega arith))
-    ∙ ap (onto_first b) (commas_at bytes i (omega arith) comma (λ k below. before (suc k) (omega arith)))
+    ∙ ap (onto_first b)
+    (commas_at bytes i (omega arith) comma (λ k below. before (suc k) (omega arith)))
 
 -- a text without a comma
 pub no_commas : (text : List ℕ) → ((k : ℕ) → k < length text → (get_or text k 0 == 44) ≡ false)

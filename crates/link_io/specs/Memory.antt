@@ -1,6 +1,8 @@
 -- Cited by public clauses. Sources, sinks and links in memory: what they are, and what one call
 -- does. The project's own.
-use Rattle.std.specs.Prelude.{◌≡◌, ℕ, ◌-◌, ◌<◌, ◌⊎◌, ◌↔◌, List, ◌++◌, length, take, drop, map, min, fold, filter, nat_lt, IsErr, IfOk, OnErr, Result, Option, Some}
+use Rattle.std.specs.Prelude.{◌≡◌, ℕ, ◌-◌, ◌<◌, ◌≤◌, ◌⊎◌, ◌↔◌, List, ◌∷◌, ◌++◌, length, take}
+use Rattle.std.specs.Prelude.{drop, map, min, filter, nat_lt, All, Contains, IsErr, IfOk, OnErr}
+use Rattle.std.specs.Prelude.{Result, Option, Some}
 use Rattle.plain_data.specs.Counts.{Numbered, NextFails, called, one_more}
 
 -- a source in memory
@@ -9,7 +11,7 @@ pub record SourceState : Type 0 where
   pub remaining : List ℕ
   -- the offsets in them that no read passes, each at least 1, in the order in which they were given
   pub cuts : List ℕ
-  -- its reads, and how many of them failed
+  -- its reads, and the number of them that failed
   pub calls : Numbered
   pub faults : ℕ
 
@@ -19,7 +21,7 @@ pub record SinkState : Type 0 where
   pub held : List ℕ
   -- the most bytes that one write takes
   pub most : ℕ
-  -- its writes, and how many of them failed
+  -- its writes, and the number of them that failed
   pub calls : Numbered
   pub faults : ℕ
 
@@ -37,23 +39,29 @@ abbrev pub held_of : SinkState → Option (List ℕ)
 held_of sink = Some sink.held
 
 -- the cuts after the first n bytes, counted from there
-abbrev pub cuts_behind : ℕ → List ℕ → List ℕ
-cuts_behind n cuts = map (λ cut. cut - n) (filter (λ cut. nat_lt n cut) cuts)
+abbrev pub cuts_after : ℕ → List ℕ → List ℕ
+cuts_after n cuts = map (λ cut. cut - n) (filter (λ cut. nat_lt n cut) cuts)
 
--- how many bytes a read moves into a buffer of this length: up to the first cut, or to the end
-abbrev pub count_of : SourceState → ℕ → ℕ
-count_of source length_of_buffer =
-    min length_of_buffer (fold min (length source.remaining) source.cuts)
+-- n is the least of these numbers
+pub record IsLeastOf (numbers : List ℕ) (n : ℕ) : Type 0 where
+  pub among : Contains numbers n
+  pub least : All (λ number. n ≤ number) numbers
 
--- what a read did: old and new are the source, before and after are the buffer
+-- where a read into a buffer of this length may end: at the end of the buffer, at that of the bytes
+-- that remain, or at a cut
+abbrev pub ends_of : SourceState → ℕ → List ℕ
+ends_of source length_of_buffer = length_of_buffer ∷ length source.remaining ∷ source.cuts
+
+-- what a read did: old and new are the source, before and after are the buffer. It moves the bytes
+-- before the first of its ends.
 pub record Reads {E : Type 0} (old new : SourceState) (before after : List ℕ)
     (result : Result ℕ E) : Type 0 where
   pub fails : IsErr result ↔ NextFails old.calls
-  pub count : IfOk result (λ n. n ≡ count_of old (length before))
+  pub count : IfOk result (λ n. IsLeastOf (ends_of old (length before)) n)
   pub moved : IfOk result (λ n. after ≡ take n old.remaining ++ drop n before)
   pub ok : IfOk result (λ n. new ≡ record old {
     remaining = drop n old.remaining;
-    cuts = cuts_behind n old.cuts;
+    cuts = cuts_after n old.cuts;
     calls = called old.calls;
   })
   pub err : OnErr result (new ≡ record old {
@@ -62,8 +70,8 @@ pub record Reads {E : Type 0} (old new : SourceState) (before after : List ℕ)
   })
   pub same_buffer : OnErr result (after ≡ before)
 
--- what a write of a piece did: it fails where its number says so, and else only where the bytes
--- that it takes find no memory
+-- what a write of a piece did: it fails if its number says so, and otherwise only if the bytes that
+-- it takes find no memory
 pub record Writes {E : Type 0} (old new : SinkState) (piece : List ℕ)
     (result : Result ℕ E) : Type 0 where
   pub listed : NextFails old.calls → IsErr result

@@ -1,9 +1,9 @@
 -- Cited by public clauses. What calls of a source and of a sink do to the bytes that remain and to
--- those that are held, where these are told. The project's own.
+-- those that are held, where these are exposed. The project's own.
 use Rattle.std.specs.Prelude.{◌≡◌, ℕ, ◌<◌, ◌≤◌, ◌↔◌, List, [], ◌++◌, length, take, option_map, Result, IfOk, IfSome, OnErr}
 use Rattle.std.specs.declared.option.Option.{Option}
 
--- the bytes stood at the front of those that remained, and the rest remains
+-- the bytes were the first of those that remained, and the rest remains
 abbrev pub Takes : Option (List ℕ) → List ℕ → Option (List ℕ) → Type 0
 Takes before bytes after = before ≡ option_map (λ rest. bytes ++ rest) after
 
@@ -11,12 +11,12 @@ Takes before bytes after = before ≡ option_map (λ rest. bytes ++ rest) after
 abbrev pub Adds : Option (List ℕ) → List ℕ → Option (List ℕ) → Type 0
 Adds before bytes after = after ≡ option_map (λ held. held ++ bytes) before
 
--- some first bytes of the piece were added, and not the whole
+-- a prefix of the piece was added, and not the whole
 abbrev pub AddsPart : Option (List ℕ) → List ℕ → Option (List ℕ) → Type 0
 AddsPart before piece after = (n : ℕ) × (n < length piece) × Adds before (take n piece) after
 
 -- what one read did to the bytes that remain: it moved the first n to the buffer, none only at
--- their end or where the buffer has no room, and where it failed it took none
+-- their end or if the buffer has no room; a failed read took none
 pub record ReadsInto {E : Type 0} (before after : Option (List ℕ)) (buffer : List ℕ)
     (result : Result ℕ E) : Type 0 where
   pub count : IfOk result (λ n. n ≤ length buffer)
@@ -25,7 +25,7 @@ pub record ReadsInto {E : Type 0} (before after : Option (List ℕ)) (buffer : L
   pub failed : OnErr result (after ≡ before)
 
 -- what one write did to the bytes that are held: it added the first n of the piece, at least one
--- where there is one, and where it failed it added none
+-- of a piece that has some; a failed write added none
 pub record WritesFrom {E : Type 0} (before after : Option (List ℕ)) (piece : List ℕ)
     (result : Result ℕ E) : Type 0 where
   pub count : IfOk result (λ n. n ≤ length piece)

@@ -6,13 +6,14 @@ use crate::sink::Sink;
 use crate::source::Source;
 use plain_data::Failed;
 
-/// A source and a sink to one peer: a read leaves what a write changes, and the other way round.
+/// A source and a sink to one peer. A read doesn't change what a write changes, nor a write what a
+/// read changes.
 pub trait Link: Source + Sink {
-    /// A read leaves the bytes that are held and the count of failed writes.
+    /// A read changes neither the bytes that are held nor the count of failed writes.
     ghost read_leaves: { (link : Self) → Self.Source.beside link
         ≡ record { bytes = Self.held link; faults = Self.write_faults link } };
 
-    /// A write leaves the bytes that remain and the count of failed reads.
+    /// A write changes neither the bytes that remain nor the count of failed reads.
     ghost write_leaves: { (link : Self) → Self.Sink.beside link
         ≡ record { bytes = Self.remaining link; faults = Self.read_faults link } };
 
@@ -20,7 +21,7 @@ pub trait Link: Source + Sink {
     ghost one_place: { (link : Self) → Self.Source.references link ≡ Self.Sink.references link };
 }
 
-/// A source and a sink that were handed in apart, as one link.
+/// A source and a sink of their own, as one link.
 #[derive(Drop)]
 pub struct Both<'a, I, O> {
     /// Where the link reads.

@@ -1,9 +1,9 @@
-//! Sources, sinks and links in memory, which tell all: their bytes, and which of their calls fail.
+//! Sources, sinks and links in memory. They expose their bytes, and which of their calls fail.
 
 ghost use Rattle.std.specs.Prelude.{◌≡◌, ◌+◌, ◌-◌, ◌<◌, ◌≤◌, ◌↔◌, ◌++◌, [], length, take, drop, fold, min, OnErr, IsErr};
 ghost use Rattle.plain_data.specs.Causes.{HasCause};
 ghost use Rattle.plain_data.specs.Counts.{NextFails, called, one_more};
-ghost use Rattle.link_io.specs.Memory.{Reads, Writes, cuts_behind, held_of, remaining_of};
+ghost use Rattle.link_io.specs.Memory.{Reads, Writes, cuts_after, held_of, remaining_of};
 ghost use Rattle.link_io.specs.Streams.{ReadsInto, WritesFrom};
 
 use crate::link::Link;
@@ -26,13 +26,13 @@ pub struct MemSource {
 
 impl Model for MemSource {
     ghost use Rattle.std.specs.Prelude.{◌≤◌, drop, length};
-    ghost use Rattle.link_io.specs.Memory.{SourceState, cuts_behind};
+    ghost use Rattle.link_io.specs.Memory.{SourceState, cuts_after};
 
     ghost Value = { SourceState };
 
     ghost view = { λ source. record {
       remaining = drop source.position source.bytes.items;
-      cuts = cuts_behind source.position source.cuts.items;
+      cuts = cuts_after source.position source.cuts.items;
       calls = source.calls;
       faults = source.faults;
     } };
@@ -47,7 +47,7 @@ impl MemSource {
     pub fn new(bytes: Vec<u8>, cuts: Vec<u64>, failing: Vec<u64>) -> MemSource
         ensures { result ≡ record {
           remaining = bytes.items;
-          cuts = cuts_behind 0 cuts.items;
+          cuts = cuts_after 0 cuts.items;
           calls = record { made = 0; failing = failing.items };
           faults = 0;
         } }
@@ -67,9 +67,9 @@ impl Source for MemSource {
 
     ghost read_faults = { λ source. source.faults };
 
-    /// Moves as many bytes as the buffer takes, up to the next cut or the end. It fails exactly
-    /// where its number is one of those that fail, or 2 ^ 64 - 1. What stands after the bytes in
-    /// the buffer stays; after a failure the whole buffer does.
+    /// Moves the bytes up to the next cut, the end or the end of the buffer, whichever comes first.
+    /// It fails if and only if its number is one of those that fail, or 2 ^ 64 - 1. What follows
+    /// the bytes in the buffer is unchanged; after a failure the whole buffer is.
     fn read(&mut self, buf: &mut [u8]) -> Result<usize, Failed>
         ensures reads { Reads self.old self.new buf.old buf.new result }
         ensures bytes { ReadsInto (remaining_of self.old) (remaining_of self.new) buf.new result }
@@ -141,9 +141,9 @@ impl Sink for MemSink {
 
     ghost write_faults = { λ sink. sink.faults };
 
-    /// Takes the piece, or as many of its first bytes as one write takes. It fails where its number
-    /// is one of those that fail, or 2 ^ 64 - 1; else only where the bytes that are held have to
-    /// grow and find no memory, which is a counted fault as well.
+    /// Takes the piece, or of a longer one the first `most` bytes. It fails if its number is one of
+    /// those that fail, or 2 ^ 64 - 1; otherwise only if the bytes that are held have to grow and
+    /// find no memory, which is a counted fault as well.
     fn write(&mut self, piece: &[u8]) -> Result<usize, Failed>
         ensures writes { Writes self.old self.new piece.now result }
         ensures bytes { WritesFrom (held_of self.old) (held_of self.new) piece.now result }
@@ -200,7 +200,7 @@ impl Source for MemLink {
       faults = link.sink.faults;
     } };
 
-    /// Reads from the link's source, and leaves its sink.
+    /// Reads from the link's source. Its sink is unchanged.
     fn read(&mut self, buf: &mut [u8]) -> Result<usize, Failed>
         ensures reads { Reads self.old.source self.new.source buf.old buf.new result }
         ensures sink { self.new.sink ≡ self.old.sink }
@@ -222,7 +222,7 @@ impl Sink for MemLink {
       faults = link.source.faults;
     } };
 
-    /// Writes to the link's sink, and leaves its source.
+    /// Writes to the link's sink. Its source is unchanged.
     fn write(&mut self, piece: &[u8]) -> Result<usize, Failed>
         ensures writes { Writes self.old.sink self.new.sink piece.now result }
         ensures source { self.new.source ≡ self.old.source }
@@ -244,7 +244,7 @@ impl Link for MemLink {
     ghost one_place = { λ _. refl };
 }
 
-// Counts a call, and its failure where its number is one of those that fail.
+// Counts a call, and its failure if its number is one of those that fail.
 fn count_call(calls: &mut NumberedCalls, faults: &mut FaultCount) -> Result<(), Failed>
     ensures calls { calls.new ≡ called calls.old }
     ensures fails { IsErr result ↔ NextFails calls.old }
@@ -258,13 +258,13 @@ fn count_call(calls: &mut NumberedCalls, faults: &mut FaultCount) -> Result<(), 
     Ok(())
 }
 
-// Moves bytes from a place on to the front of a buffer, up to the next cut.
+// Moves bytes from a position on to the beginning of a buffer, up to the next cut.
 #[tactic(auto, using(crate::proofs::Stops::moved))]
 fn move_bytes(bytes: &[u8], position: usize, cuts: &[u64], buf: &mut [u8]) -> usize
     requires { position ≤ length bytes.now }
     ensures count { result
         ≡ min (length buf.old)
-        (fold min (length bytes.now - position) (cuts_behind position cuts.now)) }
+        (fold min (length bytes.now - position) (cuts_after position cuts.now)) }
     ensures moved { buf.new ≡ take result (drop position bytes.now) ++ drop result buf.old }
     ensures within { position + result ≤ length bytes.now }
     ensures rest { drop position bytes.now
@@ -276,11 +276,11 @@ fn move_bytes(bytes: &[u8], position: usize, cuts: &[u64], buf: &mut [u8]) -> us
     count
 }
 
-// How many bytes a read from a place on moves into a buffer of this length.
+// How many bytes a read from a position on moves into a buffer of this length.
 fn count_to_stop(position: usize, cuts: &[u64], end: usize, room: usize) -> usize
     requires { position ≤ end }
     ensures count { result
-        ≡ min room (fold min (end - position) (cuts_behind position cuts.now)) }
+        ≡ min room (fold min (end - position) (cuts_after position cuts.now)) }
     ensures within { position + result ≤ end }
     ensures progress { 0 < room → position < end → 0 < result }
 {
@@ -289,7 +289,7 @@ fn count_to_stop(position: usize, cuts: &[u64], end: usize, room: usize) -> usiz
 
 // How many bytes a read from the position on can move at most: those before the first cut.
 fn reach(position: usize, cuts: &[u64], remaining: usize) -> usize
-    ensures { result ≡ fold min remaining (cuts_behind position cuts.now) }
+    ensures { result ≡ fold min remaining (cuts_after position cuts.now) }
 {
     cuts.iter()
         .filter(|cut| position < **cut as usize)

@@ -10,35 +10,39 @@ use plain_data::Failed;
 
 /// Where bytes go, by the bytes that were written.
 pub trait Sink {
-    /// The bytes that the sink holds, in their order. A sink needn't tell them.
+    /// The bytes that the sink holds, in their order. A sink needn't expose them.
     ghost held: { Self → Option (List ℕ) };
 
-    /// How often a write has failed. At 2^64 - 1 the count stands still.
+    /// The number of writes that failed. It stops at 2^64 - 1.
     ghost write_faults: { Self → ℕ };
 
-    /// What writes leave alone: the other side of a link.
+    /// What writes leave unchanged: the other side of a link.
     ghost beside: { Self → Beside } = { λ _. nothing };
 
-    /// The ghost names of the references that stand in the sink. Calls leave them, so that whoever
-    /// lent them knows what became of the values they refer to.
+    /// The ghost names of the references in the sink. Calls don't change them, so that whoever lent
+    /// them knows what became of the values they refer to.
     ghost references: { Self → List ℕ } = { λ _. [] };
 
     /// Adds the first bytes of a piece after those that are held, and returns how many: from 1 to
     /// the piece's length, and 0 for an empty piece.
     ///
-    /// A write that fails adds no byte. It returns [`Failed`] only where the count of faults rose
-    /// by one in this call, or stands at its end; a write that succeeds leaves the count.
+    /// # Errors
+    ///
+    /// [`Failed`] only if the count of faults rose by one in this call, or stands at its end. A
+    /// write that fails adds no byte; after one that succeeds the count is unchanged.
     fn write(&mut self, piece: &[u8]) -> Result<usize, Failed>
         ensures bytes { WritesFrom (held self.old) (held self.new) piece.now result }
         ensures cause { HasCause (write_faults self.old) (write_faults self.new) result }
         ensures leaves { Leaves beside references self.old self.new };
 }
 
-/// Adds a whole piece, by as many writes as it takes. It takes no memory.
+/// Adds a whole piece, by one write after another. It takes no memory.
 ///
-/// After [`Failed`] the sink has a first part of the piece, which ends before the piece does.
-/// `Failed` is returned only where the count of faults rose by one in this call, since one write
-/// failed, or stands at its end; where the whole piece was written, the count is unchanged.
+/// # Errors
+///
+/// [`Failed`] only if the count of faults rose by one in this call, since one write failed, or
+/// stands at its end. The sink then has a prefix of the piece, and not the whole. After a success
+/// the count is unchanged.
 pub fn write_whole<O: Sink>(out: &mut O, piece: &[u8]) -> Result<(), Failed>
     ensures ok { OnOk result (Adds (O.held out.old) piece.now (O.held out.new)) }
     ensures failed { OnErr result (AddsPart (O.held out.old) piece.now (O.held out.new)) }

@@ -1,11 +1,12 @@
-//! The standard streams of a program. What they hold is told nowhere: here is the edge that a proof
-//! trusts, and it decides nothing but what [`read_from`] and [`write_to`] say.
+//! The standard streams of a program. They expose no bytes: here is the edge that a proof trusts,
+//! and it decides nothing but what [`settled`] and [`with_progress`] say.
 
 ghost use Rattle.std.specs.Prelude.{◌≡◌, ◌<◌, length, IfOk, None};
 ghost use Rattle.std.specs.Io.{ReadsAtMost, WritesAtMost};
 ghost use Rattle.std.specs.Io.KnownBytes.{ReadConsumes, WriteAppends};
 ghost use Rattle.plain_data.specs.Causes.{HasCause};
-ghost use Rattle.link_io.specs.Attempts.{IsAttempt};
+ghost use Rattle.link_io.specs.Attempts.{IsAttempt, IsIdle, IsSettled};
+ghost use Rattle.link_io.specs.declared.standard.Attempt.TheVariants as attempts;
 
 use crate::sink::Sink;
 use crate::source::Source;
@@ -37,7 +38,7 @@ impl<R: Input> Source for StdSource<R> {
 
     ghost read_faults = { λ source. source.faults };
 
-    /// Reads again where a signal interrupts the read, and counts every other error.
+    /// Reads again if a signal interrupts the read, and counts every other error.
     fn read(&mut self, buf: &mut [u8]) -> Result<usize, Failed> {
         counted(read_from(&mut self.reader, buf), &mut self.faults)
     }
@@ -67,14 +68,14 @@ impl<R: Print> Sink for StdSink<R> {
 
     ghost write_faults = { λ sink. sink.faults };
 
-    /// Writes again where a signal interrupts the write, and counts every other error, and a write
-    /// of no byte of a piece that has some.
+    /// Writes again if a signal interrupts the write. It counts every other error, and a write of
+    /// no byte of a piece that has some.
     fn write(&mut self, piece: &[u8]) -> Result<usize, Failed> {
         counted(write_to(&mut io::writer(&self.rt), piece), &mut self.faults)
     }
 }
 
-/// What a call moved, as it is; a failure is counted.
+/// Returns what a call moved unchanged, and counts a failure.
 fn counted(moved: Result<usize, Failed>, faults: &mut FaultCount) -> Result<usize, Failed>
     ensures same { result ≡ moved }
     ensures cause { HasCause faults.old faults.new moved }
@@ -104,34 +105,51 @@ pub(crate) fn attempt_of(came: io::Result<usize>) -> Attempt
     }
 }
 
-/// Reads once that counts: again where a signal interrupts the read.
+/// What an attempt settles. An interrupted call settles nothing: it is made again.
+pub(crate) fn settled(attempt: Attempt) -> Option<Result<usize, Failed>>
+    ensures { IsSettled attempt result }
+{
+    match attempt {
+        Attempt::Moved(count) => Some(Ok(count)),
+        Attempt::Interrupted => None,
+        Attempt::Failed => Some(Err(Failed)),
+    }
+}
+
+/// The attempt of a write. It failed if it moved no byte of a piece that has some.
+pub(crate) fn with_progress(attempt: Attempt, piece: &[u8]) -> Attempt
+    ensures idle { IsIdle piece.now attempt → result ≡ attempts.Failed }
+    ensures other { ¬ (IsIdle piece.now attempt) → result ≡ attempt }
+{
+    match attempt {
+        Attempt::Moved(0) if !piece.is_empty() => Attempt::Failed,
+        _ => attempt,
+    }
+}
+
+/// Reads until a signal doesn't interrupt the read.
 pub(crate) fn read_from<R: Read>(reader: &mut R, buf: &mut [u8]) -> Result<usize, Failed>
     ensures count { ReadsAtMost result buf.new }
     ensures bytes { ReadConsumes (R.remaining reader.old) (R.remaining reader.new) result buf.new }
 {
     for _ in 0..u64::MAX {
-        match attempt_of(reader.read(buf)) {
-            Attempt::Moved(count) => return Ok(count),
-            Attempt::Interrupted => {}
-            Attempt::Failed => return Err(Failed),
+        if let Some(result) = settled(attempt_of(reader.read(buf))) {
+            return result;
         }
     }
     Err(Failed)
 }
 
-/// Writes once that counts: again where a signal interrupts the write. A write of no byte of a
-/// piece that has some is a failure.
+/// Writes until a signal doesn't interrupt the write. A write of no byte of a piece that has some
+/// is a failure.
 pub(crate) fn write_to<W: Write>(writer: &mut W, piece: &[u8]) -> Result<usize, Failed>
     ensures count { WritesAtMost result piece.now }
     ensures progress { IfOk result (λ n. 0 < length piece.now → 0 < n) }
     ensures bytes { WriteAppends (W.contents writer.old) (W.contents writer.new) result piece.now }
 {
     for _ in 0..u64::MAX {
-        match attempt_of(writer.write(piece)) {
-            Attempt::Moved(taken) if taken > 0 || piece.is_empty() => return Ok(taken),
-            Attempt::Moved(_) => return Err(Failed),
-            Attempt::Interrupted => {}
-            Attempt::Failed => return Err(Failed),
+        if let Some(result) = settled(with_progress(attempt_of(writer.write(piece)), piece)) {
+            return result;
         }
     }
     Err(Failed)

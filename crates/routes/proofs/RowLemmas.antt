@@ -23,10 +23,12 @@ nat_lt-suc m n = by (nat_lt m n) refl
 is_below-cons : (x b : ℕ) (front path : List ℕ)
     → is_below (x ∷ front) (b ∷ path) ≡ ((x == b) && is_below front path)
 is_below-cons x b front path =
-    ap (λ less. ((x == b) && starts_with nat_eq path front) && less) (nat_lt-suc (length front) (length path))
+    ap (λ less. ((x == b) && starts_with nat_eq path front) && less)
+    (nat_lt-suc (length front) (length path))
     ∙ by (x == b)
   where
-    by : (same : Bool) → ((same && starts_with nat_eq path front) && nat_lt (length front) (length path))
+    by : (same : Bool)
+        → ((same && starts_with nat_eq path front) && nat_lt (length front) (length path))
         ≡ (same && is_below front path)
     by true = refl
     by false = refl
@@ -63,7 +65,12 @@ module _ {K : Type 0} where
   seek-empty skip [] = refl
   seek-empty (suc skip) (b ∷ path) = seek-empty skip path
   seek-empty zero (b ∷ path) =
-      rw (param_step-empty (b ∷ path), seek-empty 0 path, seek-empty ((param_step {K = K} [] (b ∷ path)).0 - 1) path) refl
+      rw (
+        param_step-empty (b ∷ path),
+        seek-empty 0 path,
+        seek-empty
+            ((param_step {K = K} [] (b ∷ path)).0 - 1) path,
+      ) refl
 
   step-param : (rows : RowsOf K) → Plain rows → step 256 rows ≡ []
   step-param [] plain = refl
@@ -78,7 +85,8 @@ module _ {K : Type 0} where
   step-plain : (b : ℕ) (rows : RowsOf K) → Plain rows → Plain (step b rows)
   step-plain b [] plain = tt
   step-plain b (([], key) ∷ rest) plain = step-plain b rest plain.1
-  step-plain b ((x ∷ t, key) ∷ rest) plain = by (x == b) (x == 256) plain.0 (step-plain b rest plain.1)
+  step-plain b ((x ∷ t, key) ∷ rest) plain = by (x == b) (x == 256) plain.0
+      (step-plain b rest plain.1)
     where
       by : (hit param : Bool) → (param || list_any is_param t) ≡ false → Plain (step b rest)
           → Plain (cond hit ((t, key) ∷ step b rest) (step b rest))
@@ -90,7 +98,12 @@ module _ {K : Type 0} where
       → seek 0 rows (b ∷ path) ≡ or_else (seek 0 (step b rows) path) (own (step 257 rows))
   unfolding seek
   seek-plain rows b path plain =
-      rw (step-param rows plain, param_step-empty (b ∷ path), seek-empty ((param_step {K = K} [] (b ∷ path)).0 - 1) path) refl
+      rw (
+        step-param rows plain,
+        param_step-empty (b ∷ path),
+        seek-empty
+            ((param_step {K = K} [] (b ∷ path)).0 - 1) path,
+      ) refl
 
   -- ---- the row that is the path
 
@@ -99,7 +112,8 @@ module _ {K : Type 0} where
   own-lookup (([], key) ∷ rest) = refl
   own-lookup ((x ∷ t, key) ∷ rest) = own-lookup rest
 
-  lookup-step : (b : ℕ) (path : List ℕ) (rows : RowsOf K) → lookup path (step b rows) ≡ lookup (b ∷ path) rows
+  lookup-step : (b : ℕ) (path : List ℕ) (rows : RowsOf K) → lookup path (step b rows)
+      ≡ lookup (b ∷ path) rows
   lookup-step b path [] = refl
   lookup-step b path (([], key) ∷ rest) = lookup-step b path rest
   lookup-step b path ((x ∷ t, key) ∷ rest) = by (x == b) (lookup-step b path rest)
@@ -140,9 +154,11 @@ module _ {K : Type 0} where
   catching-own : (rows : RowsOf K) → own (step 257 (catching rows)) ≡ own (step 257 rows)
   catching-own [] = refl
   catching-own (([], key) ∷ rest) = catching-own rest
-  catching-own ((x ∷ t, key) ∷ rest) = by (x == 257) refl (list_any (λ y. y == 257) t) (catching-own rest)
+  catching-own ((x ∷ t, key) ∷ rest) = by (x == 257) refl (list_any (λ y. y == 257) t)
+      (catching-own rest)
     where
-      by : (hit : Bool) → (x == 257) ≡ hit → (any : Bool) → own (step 257 (catching rest)) ≡ own (step 257 rest)
+      by : (hit : Bool) → (x == 257) ≡ hit → (any : Bool) → own (step 257 (catching rest))
+          ≡ own (step 257 rest)
           → own (step 257 (cond (hit || any) ((x ∷ t, key) ∷ catching rest) (catching rest)))
           ≡ own (cond hit ((t, key) ∷ step 257 rest) (step 257 rest))
       by true is any later = rw is (push t later)
@@ -154,7 +170,8 @@ module _ {K : Type 0} where
       by false is true later = rw is later
       by false is false later = later
 
-  catching-step : (b : ℕ) (rows : RowsOf K) → (b == 257) ≡ false → catching (step b rows) ≡ step b (catching rows)
+  catching-step : (b : ℕ) (rows : RowsOf K) → (b == 257) ≡ false → catching (step b rows)
+      ≡ step b (catching rows)
   catching-step b [] byte = refl
   catching-step b (([], key) ∷ rest) byte = catching-step b rest byte
   catching-step b ((x ∷ t, key) ∷ rest) byte =
@@ -180,11 +197,13 @@ module _ {K : Type 0} where
       (λ rest. caught-catching (step b rows) path rest)
     where
       by : (catch : Bool) → (b == 257) ≡ catch → (catch || list_any (λ b. b == 257) path) ≡ false
-          → (list_any (λ b. b == 257) path ≡ false → caught (step b rows) path ≡ caught (catching (step b rows)) path)
+          → (list_any (λ b. b == 257) path ≡ false → caught (step b rows) path
+          ≡ caught (catching (step b rows)) path)
           → caught rows (b ∷ path) ≡ caught (catching rows) (b ∷ path)
       by true is none later = absurd (false≢true (sym none))
       by false is none later =
-          ap₂ or_else (later none ∙ ap (λ r. caught r path) (catching-step b rows is)) (sym (catching-own rows))
+          ap₂ or_else (later none ∙ ap (λ r. caught r path) (catching-step b rows is))
+          (sym (catching-own rows))
 
   -- ---- one row with a catch-all, and two that begin differently
 
@@ -192,7 +211,8 @@ module _ {K : Type 0} where
   caught-end key [] = refl
   caught-end key (b ∷ path) = ap (λ r. or_else r None) (caught-empty path)
 
-  pub caught-one : (front : List ℕ) (key : K) (path : List ℕ) → list_any (λ b. b == 257) front ≡ false
+  pub caught-one : (front : List ℕ) (key : K) (path : List ℕ) → list_any (λ b. b == 257) front
+      ≡ false
       → caught ((front ++ 257 ∷ [], key) ∷ []) path ≡ cond (is_below front path) (Some key) None
   caught-one [] key [] bytes = refl
   caught-one [] key (b ∷ path) bytes =
@@ -209,7 +229,8 @@ module _ {K : Type 0} where
     where
       by : (hit catch : Bool) → (catch || list_any (λ b. b == 257) front) ≡ false
           → (list_any (λ b. b == 257) front ≡ false
-          → caught ((front ++ 257 ∷ [], key) ∷ []) path ≡ cond (is_below front path) (Some key) None)
+          → caught ((front ++ 257 ∷ [], key) ∷ []) path
+          ≡ cond (is_below front path) (Some key) None)
           → or_else (caught (cond hit ((front ++ 257 ∷ [], key) ∷ []) []) path)
           (own (cond catch ((front ++ 257 ∷ [], key) ∷ []) []))
           ≡ cond (hit && is_below front path) (Some key) None
@@ -226,13 +247,18 @@ module _ {K : Type 0} where
       rw (plain, plain') (by (x == b) refl (y == b) refl)
     where
       by : (hit : Bool) → (x == b) ≡ hit → (hit' : Bool) → (y == b) ≡ hit'
-          → or_else (caught (cond hit ((t, key) ∷ cond hit' ((u, other) ∷ []) []) (cond hit' ((u, other) ∷ []) [])) path) None
+          → or_else
+          (caught (cond hit ((t, key) ∷ cond hit' ((u, other) ∷ []) [])
+          (cond hit' ((u, other) ∷ []) [])) path) None
           ≡ or_else (or_else (caught (cond hit ((t, key) ∷ []) []) path) None)
           (or_else (caught (cond hit' ((u, other) ∷ []) []) path) None)
       by true is true is' = absurd (differ (eqb-true x b is ∙ sym (eqb-true y b is')))
       by true is false is' =
-          sym (ap (λ r. or_else (or_else (caught ((t, key) ∷ []) path) None) (or_else r None)) (caught-empty path) ∙ or_else-none _)
+          sym (ap (λ r. or_else (or_else (caught ((t, key) ∷ []) path) None) (or_else r None))
+          (caught-empty path) ∙ or_else-none _)
       by false is true is' =
-          sym (ap (λ r. or_else (or_else r None) (or_else (caught ((u, other) ∷ []) path) None)) (caught-empty path))
+          sym (ap (λ r. or_else (or_else r None) (or_else (caught ((u, other) ∷ []) path) None))
+          (caught-empty path))
       by false is false is' =
-          sym (ap (λ r. or_else (or_else r None) (or_else (caught [] path) None)) (caught-empty path))
+          sym (ap (λ r. or_else (or_else r None) (or_else (caught [] path) None))
+          (caught-empty path))

@@ -24,9 +24,11 @@ caught-page : (path : List ℕ) → list_any (λ b. b == 257) path ≡ false
     (cond (is_below (codes "src/") path) (Some pages.Source) None)
 caught-page path bytes =
     caught-catching page_rows path bytes
-    ∙ caught-two 112 115 (codes "kg/" ++ 257 ∷ []) (codes "rc/" ++ 257 ∷ []) pages.Package pages.Source path
+    ∙ caught-two 112 115 (codes "kg/" ++ 257 ∷ [])
+    (codes "rc/" ++ 257 ∷ []) pages.Package pages.Source path
     (λ same. omega arith) refl refl
-    ∙ ap₂ or_else (caught-one (codes "pkg/") pages.Package path refl) (caught-one (codes "src/") pages.Source path refl)
+    ∙ ap₂ or_else (caught-one (codes "pkg/") pages.Package path refl)
+    (caught-one (codes "src/") pages.Source path refl)
 
 -- what the rows of whole paths find, and then what was caught, is what the table says
 abbrev Agrees : List ℕ → Type 0
@@ -36,13 +38,18 @@ Agrees path = (found : Option Page)
     → or_else (lookup path page_rows) found ≡ page_at path
 
 -- a path that is this text, or isn't
-at_text : (text path : List ℕ) → Agrees text → (bytes_eq text path ≡ false → Agrees path) → Agrees path
+at_text : (text path : List ℕ) → Agrees text → (bytes_eq text path ≡ false → Agrees path)
+    → Agrees path
 at_text text path at otherwise =
-    ⊎_elim (λ is. subst Agrees ((bytes_eq-Decides text path).0 is) at) otherwise (cases_Bool (bytes_eq text path))
+    ⊎_elim (λ is. subst Agrees ((bytes_eq-Decides text path).0 is) at) otherwise
+    (cases_Bool (bytes_eq text path))
 
-no_text : (path : List ℕ) → bytes_eq (codes "faults") path ≡ false → bytes_eq (codes "pkg/" ++ 257 ∷ []) path ≡ false
-    → bytes_eq (codes "pkg/") path ≡ false → bytes_eq (codes "pkg") path ≡ false → bytes_eq (codes "search") path ≡ false
-    → bytes_eq (codes "src/" ++ 257 ∷ []) path ≡ false → bytes_eq (codes "") path ≡ false → Agrees path
+no_text : (path : List ℕ) → bytes_eq (codes "faults") path ≡ false
+    → bytes_eq (codes "pkg/" ++ 257 ∷ []) path ≡ false
+    → bytes_eq (codes "pkg/") path ≡ false → bytes_eq (codes "pkg") path ≡ false
+    → bytes_eq (codes "search") path ≡ false
+    → bytes_eq (codes "src/" ++ 257 ∷ []) path ≡ false → bytes_eq (codes "") path ≡ false
+    → Agrees path
 no_text path a b c d e f g found is =
     rw (a, b, c, d, e, f, g, is) (by (is_below (codes "pkg/") path) (is_below (codes "src/") path))
   where
@@ -67,12 +74,14 @@ agrees path =
     (λ f. at_text (codes "") path (λ found is. refl)
     (λ g. no_text path a b c d e f g)))))))
 
-first-page : (path : List ℕ) → list_any (λ b. b == 257) path ≡ false → first page_rows path ≡ page_at path
+first-page : (path : List ℕ) → list_any (λ b. b == 257) path ≡ false → first page_rows path
+    ≡ page_at path
 first-page path bytes =
     seek-is page_rows path (refl, (refl, (refl, (refl, (refl, (refl, (refl, tt)))))))
     ∙ agrees path (caught page_rows path) (caught-page path bytes)
 
-no_catch_all : (path : List ℕ) → ((i : ℕ) → i < length path → get_or path i 0 < 256) → list_any (λ b. b == 257) path ≡ false
+no_catch_all : (path : List ℕ) → ((i : ℕ) → i < length path → get_or path i 0 < 256)
+    → list_any (λ b. b == 257) path ≡ false
 no_catch_all path bytes =
     list_any_none (λ b. b == 257) path
     (All-from_get_or (λ b. (b == 257) ≡ false) path 0

@@ -33,24 +33,30 @@ after_slash_is target (Some x) is = ap after_slash is
 pub not_absolute : (target : List ℕ) → ((rest : List ℕ) → target ≢ codes "http://" ++ rest)
     → path_and_query target ≡ after_slash target
 not_absolute target lacks =
-    ap (λ b. cond b (Some (after_first is_slash (drop 7 target))) (after_slash target)) (by (starts_with nat_eq target (codes "http://")) refl)
+    ap (λ b. cond b (Some (after_first is_slash (drop 7 target))) (after_slash target))
+    (by (starts_with nat_eq target (codes "http://")) refl)
   where
     by : (b : Bool) → starts_with nat_eq target (codes "http://") ≡ b → b ≡ false
-    by true is = absurd (lacks (drop 7 target) ((starts_is Decides-eqb target (codes "http://") true (sym is)).0 refl))
+    by true is = absurd
+        (lacks (drop 7 target)
+        ((starts_is Decides-eqb target (codes "http://") true (sym is)).0 refl))
     by false is = refl
 
-pub without_slash_some : (text front : List ℕ) → text ≡ front ++ 47 ∷ [] → front ≡ without_slash text
+pub without_slash_some : (text front : List ℕ) → text ≡ front ++ 47 ∷ [] → front
+    ≡ without_slash text
 without_slash_some text front is =
     sym (ap (λ b. cond b (take (length text - 1) text) text) ends ∙ ap (take (length text - 1)) is
     ∙ take_at front (47 ∷ []) (length text - 1) (omega (arith, whole)))
   where
     ends : ends_with nat_eq text (codes "/") ≡ true
-    ends = (ends_is Decides-eqb text (codes "/") (ends_with nat_eq text (codes "/")) refl).1 front is
+    ends = (ends_is Decides-eqb text (codes "/")
+        (ends_with nat_eq text (codes "/")) refl).1 front is
 
     whole : length text ≡ length front + 1
     whole = ap length is ∙ length-append front (47 ∷ [])
 
-pub without_slash_none : (text : List ℕ) → ((front : List ℕ) → text ≢ front ++ 47 ∷ []) → text ≡ without_slash text
+pub without_slash_none : (text : List ℕ) → ((front : List ℕ) → text ≢ front ++ 47 ∷ []) → text
+    ≡ without_slash text
 without_slash_none text none = by (ends_with nat_eq text (codes "/")) refl
   where
     by : (ends : Bool) → ends_with nat_eq text (codes "/") ≡ ends
@@ -60,15 +66,18 @@ without_slash_none text none = by (ends_with nat_eq text (codes "/")) refl
 
 -- ---- decoded values
 
-pub decoded_text : (value text : List ℕ) → text ≡ percent_decode value → IsUtf8 (percent_decode value)
+pub decoded_text : (value text : List ℕ) → text ≡ percent_decode value
+    → IsUtf8 (percent_decode value)
     → Some text ≡ decoded value
 decoded_text value text is utf8 =
-    ap Some is ∙ ap (λ b. cond b (Some (percent_decode value)) None) (sym (is_utf8-from_IsUtf8 (percent_decode value) utf8))
+    ap Some is ∙ ap (λ b. cond b (Some (percent_decode value)) None)
+    (sym (is_utf8-from_IsUtf8 (percent_decode value) utf8))
 
 pub not_decoded : (value : List ℕ) → (IsUtf8 (percent_decode value) → ⊥) → None ≡ decoded value
 not_decoded value none = by (is_utf8 (percent_decode value)) refl
   where
-    by : (utf8 : Bool) → is_utf8 (percent_decode value) ≡ utf8 → None ≡ cond utf8 (Some (percent_decode value)) None
+    by : (utf8 : Bool) → is_utf8 (percent_decode value) ≡ utf8 → None
+        ≡ cond utf8 (Some (percent_decode value)) None
     by true is = absurd (none (IsUtf8-from_is_utf8 (percent_decode value) is))
     by false is = refl
 
@@ -80,7 +89,8 @@ all_is (c ∷ cs) = ap (λ rest. is_ascii_digit c && rest) (all_is cs)
 
 all_digits : (text : List ℕ) → list_all is_ascii_digit text ≡ true → AllDigits 10 text
 all_digits text all =
-    (numerals_by_value (λ ds. all_ascii_digits ds ≡ true) tells_all_ascii_digits).to text (sym (all_is text) ∙ all)
+    (numerals_by_value (λ ds. all_ascii_digits ds ≡ true) tells_all_ascii_digits).to text
+    (sym (all_is text) ∙ all)
 
 no_plus : (text : List ℕ) → AllDigits 10 text → without_leading_plus text ≡ text
 no_plus [] digits = refl
@@ -95,9 +105,11 @@ value_fits text digits short =
     omega arith
 
 pub page_parsed : (text : List ℕ) (page : ℕ)
-    → (IsNumeral 10 (without_leading_plus text) × (digits_value 10 (without_leading_plus text) < 2 ^ 32))
+    → (IsNumeral 10 (without_leading_plus text)
+    × (digits_value 10 (without_leading_plus text) < 2 ^ 32))
     × (page ≡ digits_value 10 (without_leading_plus text))
-    → length text ≤ 6 → list_all is_ascii_digit text ≡ true → 1 ≤ page → Some page ≡ page_number text
+    → length text ≤ 6 → list_all is_ascii_digit text ≡ true → 1 ≤ page → Some page
+    ≡ page_number text
 page_parsed text page parsed short all some =
     ap Some value ∙ sym (ap (λ b. cond b (Some (digits_value 10 text)) None) valid)
   where
@@ -112,11 +124,18 @@ page_parsed text page parsed short all some =
 
     valid : is_page_number text ≡ true
     valid =
-        rw (lt-ltb 0 (length text) long, le-leb (length text) 6 short, all, lt-ltb 0 (digits_value 10 text) (omega (arith, value)))
+        rw (
+          lt-ltb 0 (length text) long,
+          le-leb (length text) 6 short,
+          all,
+          lt-ltb 0
+              (digits_value 10 text) (omega (arith, value)),
+        )
         refl
 
 pub page_not_parsed : (text : List ℕ)
-    → (IsNumeral 10 (without_leading_plus text) × (digits_value 10 (without_leading_plus text) < 2 ^ 32) → ⊥)
+    → (IsNumeral 10 (without_leading_plus text)
+    × (digits_value 10 (without_leading_plus text) < 2 ^ 32) → ⊥)
     → length text ≤ 6 → list_all is_ascii_digit text ≡ true → None ≡ page_number text
 page_not_parsed [] parsed short all = refl
 page_not_parsed (c ∷ cs) parsed short all =
@@ -127,8 +146,10 @@ page_not_parsed (c ∷ cs) parsed short all =
 
 -- ---- a search
 
-pub search_refused : (query name : List ℕ) → Some name ≡ first_value (codes "q") query → is_name name ≡ false
+pub search_refused : (query name : List ℕ) → Some name ≡ first_value (codes "q") query
+    → is_name name ≡ false
     → targets.BadTarget ≡ search_target query
 search_refused query name first refused =
     sym (ap (λ value. search_by value (first_value (codes "p") query)) (sym first)
-    ∙ ap (λ (b : Bool). if b then search_at name (page_asked (first_value (codes "p") query)) else targets.BadTarget) refused)
+    ∙ ap (λ (b : Bool). if b then search_at name
+    (page_asked (first_value (codes "p") query)) else targets.BadTarget) refused)

@@ -10,16 +10,19 @@ returns-then-is_close c =
     let rest = c.loop-comma.rest.now in
     let cut = commas_at rest c.in-Some.comma (search rules) (search rules) (search rules) in
     sym (sym c.loop-comma.invariant ∙ ap (list_any is_close) cut
-    ∙ ap (λ b. b || list_any is_close (between_commas (drop (suc c.in-Some.comma) rest))) (sym c.is_close.ensures ∙ c.if-is_close.true))
+    ∙ ap (λ b. b || list_any is_close (between_commas (drop (suc c.in-Some.comma) rest)))
+    (sym c.is_close.ensures ∙ c.if-is_close.true))
 
 pub loop-comma-preserved : goal.loop-comma-preserved
 loop-comma-preserved c =
     let rest = c.loop-comma.rest.now in
     let after = drop (suc c.in-Some.comma) rest in
     let cut = commas_at rest c.in-Some.comma (search rules) (search rules) (search rules) in
-    ap (λ w. list_any is_close (between_commas w)) (take_rest rest (c.in-Some.comma + 1) ∙ ap (λ n. drop n rest) (add-one c.in-Some.comma))
+    ap (λ w. list_any is_close (between_commas w))
+    (take_rest rest (c.in-Some.comma + 1) ∙ ap (λ n. drop n rest) (add-one c.in-Some.comma))
     ∙ sym (ap (list_any is_close) cut
-    ∙ ap (λ b. b || list_any is_close (between_commas after)) (sym c.is_close.ensures ∙ c.if-is_close.false))
+    ∙ ap (λ b. b || list_any is_close (between_commas after))
+    (sym c.is_close.ensures ∙ c.if-is_close.false))
     ∙ c.loop-comma.invariant
 
 pub returns : goal.returns

@@ -15,4 +15,5 @@ returns-in-Err-Utf8 c =
     let bytes = c.percent_decode.ensures.bytes in
     let unless = rw c.in-Err-Utf8.is at c.decode_utf8.ensures.utf8 in
     not_decoded c.args.value.now
-    (λ utf8. let is = sym c.in-Err-Utf8.field-0-is ∙ unless (subst IsUtf8 (sym bytes) utf8) in cc (is))
+    (λ utf8. let is = sym c.in-Err-Utf8.field-0-is ∙ unless (subst IsUtf8 (sym bytes) utf8) in cc
+    (is))

@@ -9,4 +9,5 @@ returns-in-None c =
     let lacks = rw c.in-None.is at c.strip_prefix.ensures.cases in
     rw (not_absolute target lacks)
     (after_slash_is target c.strip_prefix-in-None.result
-    (strip_prefix_char 47 target c.strip_prefix-in-None.result c.strip_prefix-in-None.ensures.cases (omega arith)))
+    (strip_prefix_char 47 target c.strip_prefix-in-None.result c.strip_prefix-in-None.ensures.cases
+    (omega arith)))

@@ -8,7 +8,8 @@ pub returns-in-Ok : goal.returns-in-Ok
 returns-in-Ok c =
     let parsed = rw c.in-Ok.is at c.parse.ensures.value in
     let all : list_all is_ascii_digit c.args.text.now ≡ true = search rules in
-    page_parsed c.args.text.now c.in-Ok.page parsed.0 (search rules) all c.if-page-ge-FIRST_PAGE.true
+    page_parsed c.args.text.now c.in-Ok.page parsed.0
+    (search rules) all c.if-page-ge-FIRST_PAGE.true
 
 pub returns-in_default-2 : goal.returns-in_default-2
 returns-in_default-2 c =

@@ -16,28 +16,59 @@ add-requires-3 c = rw (c.in_ok-add-2.ensures, c.in_ok-add.ensures, c.new-pages.e
 
 pub add-requires-4 : goal.add-requires-4
 unfolding matchit_on_literals
-add-requires-4 c = rw (c.in_ok-add-3.ensures, c.in_ok-add-2.ensures, c.in_ok-add.ensures, c.new-pages.ensures) refl
+add-requires-4 c = rw
+    (c.in_ok-add-3.ensures, c.in_ok-add-2.ensures, c.in_ok-add.ensures, c.new-pages.ensures) refl
 
 pub add-requires-5 : goal.add-requires-5
 unfolding matchit_on_literals
 add-requires-5 c =
-    rw (c.in_ok-add-4.ensures, c.in_ok-add-3.ensures, c.in_ok-add-2.ensures, c.in_ok-add.ensures, c.new-pages.ensures) refl
+    rw (
+      c.in_ok-add-4.ensures,
+      c.in_ok-add-3.ensures,
+      c.in_ok-add-2.ensures,
+      c.in_ok-add.ensures,
+      c.new-pages.ensures,
+    ) refl
 
 pub add-requires-6 : goal.add-requires-6
 unfolding matchit_on_literals
 add-requires-6 c =
-    rw (c.in_ok-add-5.ensures, c.in_ok-add-4.ensures, c.in_ok-add-3.ensures, c.in_ok-add-2.ensures, c.in_ok-add.ensures, c.new-pages.ensures)
+    rw (
+      c.in_ok-add-5.ensures,
+      c.in_ok-add-4.ensures,
+      c.in_ok-add-3.ensures,
+      c.in_ok-add-2.ensures,
+      c.in_ok-add.ensures,
+      c.new-pages.ensures,
+    )
     refl
 
 pub add-requires-7 : goal.add-requires-7
 unfolding matchit_on_literals
 add-requires-7 c =
-    rw (c.in_ok-add-6.ensures, c.in_ok-add-5.ensures, c.in_ok-add-4.ensures, c.in_ok-add-3.ensures, c.in_ok-add-2.ensures, c.in_ok-add.ensures, c.new-pages.ensures)
+    rw (
+      c.in_ok-add-6.ensures,
+      c.in_ok-add-5.ensures,
+      c.in_ok-add-4.ensures,
+      c.in_ok-add-3.ensures,
+      c.in_ok-add-2.ensures,
+      c.in_ok-add.ensures,
+      c.new-pages.ensures,
+    )
     refl
 
 pub invariant_of-result : goal.invariant_of-result
 unfolding matchit_on_literals
 invariant_of-result c = record {
-  rows = rw (c.in_ok-add-7.ensures, c.in_ok-add-6.ensures, c.in_ok-add-5.ensures, c.in_ok-add-4.ensures, c.in_ok-add-3.ensures, c.in_ok-add-2.ensures, c.in_ok-add.ensures, c.new-pages.ensures)
+  rows = rw (
+    c.in_ok-add-7.ensures,
+    c.in_ok-add-6.ensures,
+    c.in_ok-add-5.ensures,
+    c.in_ok-add-4.ensures,
+    c.in_ok-add-3.ensures,
+    c.in_ok-add-2.ensures,
+    c.in_ok-add.ensures,
+    c.new-pages.ensures,
+  )
       refl;
 }
