@@ -11,7 +11,8 @@ fn answer(alloc: Global, question: &str, text: &str) -> Mem<String> {
     match question {
         "open" => streams::requests(alloc, unpictured(alloc, text)?.as_slice(), false),
         "ended" => streams::requests(alloc, unpictured(alloc, text)?.as_slice(), true),
-        "long" => streams::long(alloc, text),
+        "long" => streams::long(alloc, text, false),
+        "last" => streams::long(alloc, text, true),
         "get" => targets::target(alloc, Verb::Get, text),
         "head" => targets::target(alloc, Verb::Head, text),
         "post" => targets::target(alloc, Verb::Other, text),

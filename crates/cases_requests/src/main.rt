@@ -8,7 +8,7 @@
 //! |---|---|
 //! | `open` | the requests of a stream whose input hasn't ended, and how it ends |
 //! | `ended` | the same where the input ends after it |
-//! | `long` | the same as `open` of `letters N`, `newlines N`, a `head N` bytes long, or one with `fields N` |
+//! | `long`, `last` | both of the stream `letters N`, `newlines N`, `head N` (bytes) or `fields N` |
 //! | `get`, `head`, `post` | what a request with that method asks for by its target |
 //! | `reply` | the head of the reply with this code, length and edition; `last` where it closes |
 //! | `refusal` | the reply to what can't be a request |

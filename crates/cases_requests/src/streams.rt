@@ -104,8 +104,8 @@ fn made(alloc: Global, what: &str, count: usize) -> Mem<Vec<u8>> {
 }
 
 /// The requests of a stream that is described by a word and a number, and how it ends.
-pub fn long(alloc: Global, text: &str) -> Mem<String> {
+pub fn long(alloc: Global, text: &str, ended: bool) -> Mem<String> {
     let (what, count) = text.split_once(" ").unwrap_or((text, ""));
     let stream = made(alloc, what, count.parse::<usize>().unwrap_or(0).min(16_384))?;
-    requests_in(alloc, &[stream.as_slice()], false)
+    requests_in(alloc, &[stream.as_slice()], ended)
 }

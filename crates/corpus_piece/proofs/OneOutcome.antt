@@ -14,7 +14,7 @@ use Rattle.go_ast.specs.declared.declaration.File.{File}
 use Rattle.go_ast.specs.declared.fault.Fault.{Fault}
 use Rattle.go_ast.specs.declared.fault.Fault.TheVariants as faults
 use Rattle.go_ast.specs.declared.token.Comment.{Comment}
-use Rattle.go_ast.specs.declared.token.TheConstants.{MAX_SOURCE_BYTES}
+use Rattle.tree_io.specs.Sources.{file_limit}
 use Rattle.go_ast.specs.declared.token.Token.{Token}
 use Rattle.go_ast.specs.Files.{FileFault, SpellsFile}
 use Rattle.go_ast.specs.Position.{line_of}
@@ -175,9 +175,9 @@ module _ (laws : Laws) where
   some_found path entries.Unread config number none = none (Faulty faults.Unread) refl
   some_found path entries.Large config number none = none (Faulty faults.FileTooLarge) refl
   some_found path (entries.Bytes bytes) config number none =
-      let small : length bytes ≤ MAX_SOURCE_BYTES =
+      let small : length bytes ≤ file_limit =
       ⊎_elim (λ l. absurd (none (Faulty faults.FileTooLarge) (inl (l, refl)))) (λ l. l)
-      (cases_lt MAX_SOURCE_BYTES (length bytes)) in
+      (cases_lt file_limit (length bytes)) in
       some_of_bytes path bytes config number (λ x p. none x (inr (small, p)))
 
   pub some_outcome : (path : List ℕ) (entry : Entry) (config : Config) (number : ℕ)

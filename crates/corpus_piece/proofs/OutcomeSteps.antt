@@ -5,7 +5,7 @@ use Rattle.build_lines.specs.declared.admission.Admission.TheVariants as admissi
 use Rattle.build_lines.specs.Admissions.{IsAdmission}
 use Rattle.go_ast.specs.declared.config.Config.{Config}
 use Rattle.go_ast.specs.declared.token.Comment.{Comment}
-use Rattle.go_ast.specs.declared.token.TheConstants.{MAX_SOURCE_BYTES}
+use Rattle.tree_io.specs.Sources.{file_limit}
 use Rattle.go_ast.specs.declared.token.Token.{Token}
 use Rattle.go_ast.specs.Reading.{Reads}
 use Rattle.tree_io.specs.declared.tree.Entry.{Entry}
@@ -16,7 +16,7 @@ use Rattle.corpus_piece.specs.Outcomes.{unreadable, bad_build_line, ignored, mis
 use Rattle.corpus_piece.specs.Steps.{IsFoundOutcome, IsOutcomeAfter}
 
 module _ (path bytes : List ℕ) (config : Config) (number : ℕ) (outcome : Outcome)
-    (small : length bytes ≤ MAX_SOURCE_BYTES) (tokens : List Token) (comments : List Comment)
+    (small : length bytes ≤ file_limit) (tokens : List Token) (comments : List Comment)
     (reads : Reads bytes tokens comments) where
   read_for : (admission : Admission) → IsAdmission path bytes tokens comments config admission
       → IsReadFor path (entries.Bytes bytes) config bytes tokens comments admission

@@ -1,6 +1,6 @@
 -- Cited by private clauses and proofs. What is known of an accepted file.
 use Rattle.std.specs.Prelude.{◌≡◌, ℕ, ◌≤◌, List, length}
-use Rattle.go_ast.specs.declared.token.TheConstants.{MAX_SOURCE_BYTES}
+use Rattle.tree_io.specs.Sources.{file_limit}
 use Rattle.go_ast.specs.Files.{SpellsFile}
 use Rattle.go_ast.specs.Position.{line_starts}
 use Rattle.go_ast.specs.Reading.{Reads}
@@ -13,7 +13,7 @@ use Rattle.corpus_piece.specs.declared.outcome.Parsed.{Parsed}
 pub record IsAccepted (entry : Entry) (number : ℕ) (parsed : Parsed) : Type 0 where
   pub bytes : List ℕ
   pub entry_is : entry ≡ entries.Bytes bytes
-  pub small : length bytes ≤ MAX_SOURCE_BYTES
+  pub small : length bytes ≤ file_limit
   pub reads : Reads bytes parsed.scanned.tokens parsed.scanned.comments
   pub lines_are : parsed.scanned.lines ≡ line_starts bytes
   pub spells : SpellsFile bytes parsed.scanned.tokens parsed.file

@@ -10,7 +10,7 @@ use Rattle.go_ast.specs.declared.declaration.File.{File}
 use Rattle.go_ast.specs.declared.fault.Fault.{Fault}
 use Rattle.go_ast.specs.declared.fault.Fault.TheVariants as faults
 use Rattle.go_ast.specs.declared.token.Comment.{Comment}
-use Rattle.go_ast.specs.declared.token.TheConstants.{MAX_SOURCE_BYTES}
+use Rattle.tree_io.specs.Sources.{file_limit}
 use Rattle.go_ast.specs.declared.token.Token.{Token}
 use Rattle.go_ast.specs.Files.{FileFault, SpellsFile}
 use Rattle.go_ast.specs.Position.{line_starts}
@@ -36,7 +36,7 @@ parsed_of bytes tokens comments file number = record {
 pub record IsReadFor (path : List ℕ) (entry : Entry) (config : Config) (bytes : List ℕ)
     (tokens : List Token) (comments : List Comment) (admission : Admission) : Type 0 where
   pub entry_is : entry ≡ entries.Bytes bytes
-  pub small : length bytes ≤ MAX_SOURCE_BYTES
+  pub small : length bytes ≤ file_limit
   pub reads : Reads bytes tokens comments
   pub admitted : IsAdmission path bytes tokens comments config admission
 
@@ -48,10 +48,10 @@ pub data IsOutcomeOf (path : List ℕ) (entry : Entry) (config : Config) (number
       → IsOutcomeOf path entry config number outcome
   large : entry ≡ entries.Large → outcome ≡ Faulty faults.FileTooLarge
       → IsOutcomeOf path entry config number outcome
-  oversized : (bytes : List ℕ) → entry ≡ entries.Bytes bytes → MAX_SOURCE_BYTES < length bytes
+  oversized : (bytes : List ℕ) → entry ≡ entries.Bytes bytes → file_limit < length bytes
       → outcome ≡ Faulty faults.FileTooLarge → IsOutcomeOf path entry config number outcome
   unreadable : (bytes : List ℕ) (fault : Fault) → entry ≡ entries.Bytes bytes
-      → length bytes ≤ MAX_SOURCE_BYTES → ScanFault bytes fault → outcome ≡ Faulty fault
+      → length bytes ≤ file_limit → ScanFault bytes fault → outcome ≡ Faulty fault
       → IsOutcomeOf path entry config number outcome
   bad_build_line : (bytes : List ℕ) (tokens : List Token) (comments : List Comment) (line : ℕ)
       → IsReadFor path entry config bytes tokens comments (admissions.BadBuildLine line)

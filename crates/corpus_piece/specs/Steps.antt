@@ -9,7 +9,7 @@ use Rattle.go_ast.specs.declared.declaration.File.{File}
 use Rattle.go_ast.specs.declared.fault.Fault.{Fault}
 use Rattle.go_ast.specs.declared.fault.Fault.TheVariants as faults
 use Rattle.go_ast.specs.declared.token.Comment.{Comment}
-use Rattle.go_ast.specs.declared.token.TheConstants.{MAX_SOURCE_BYTES}
+use Rattle.tree_io.specs.Sources.{file_limit}
 use Rattle.go_ast.specs.declared.token.Token.{Token}
 use Rattle.go_ast.specs.Files.{FileFault, SpellsFile}
 use Rattle.go_ast.specs.Reading.{Reads, ScanFault}
@@ -48,5 +48,5 @@ abbrev pub IsFoundOutcome : List ℕ → Entry → Config → ℕ → Outcome �
 IsFoundOutcome path entries.Unread config number outcome = outcome ≡ Faulty faults.Unread
 IsFoundOutcome path entries.Large config number outcome = outcome ≡ Faulty faults.FileTooLarge
 IsFoundOutcome path (entries.Bytes bytes) config number outcome =
-    ((MAX_SOURCE_BYTES < length bytes) × (outcome ≡ Faulty faults.FileTooLarge))
-    ⊎ ((length bytes ≤ MAX_SOURCE_BYTES) × IsOutcomeOfBytes path bytes config number outcome)
+    ((file_limit < length bytes) × (outcome ≡ Faulty faults.FileTooLarge))
+    ⊎ ((length bytes ≤ file_limit) × IsOutcomeOfBytes path bytes config number outcome)

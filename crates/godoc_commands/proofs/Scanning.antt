@@ -4,8 +4,7 @@ use Rattle.std.specs.Prelude.{All, IsSome}
 use Rattle.std.specs.Option.{ForSome}
 use Rattle.std.proofs.lemmas.List.Elements.{All-head, All-tail}
 use Rattle.std.proofs.lemmas.List.Sums.{sum_by-append}
-use Rattle.corpus.specs.Snapshots.{bytes_of, size_of}
-use Rattle.corpus.specs.declared.snapshot.TheConstants.{MAX_SCAN_BYTES}
+use Rattle.corpus.specs.Snapshots.{bytes_of, scan_bytes_limit, size_of}
 use Rattle.tree_io.specs.declared.tree.Entry.{Entry}
 use Rattle.tree_io.specs.Entries.{IsReadSoFar}
 use Rattle.tree_io.specs.Scans.{IsKnown, under_way}
@@ -34,8 +33,8 @@ known_between scans paths before path rest cut known told is =
 
 -- with one more file there are too many bytes
 pub pass_here : (scans : Option (List Contents)) (paths before : List (List ℕ)) (path : List ℕ) (rest : List (List ℕ)) (sources : Sources) (entry : Entry) (a c bytes : ℕ)
-    → before ++ path ∷ rest ≡ paths → IsReadSoFar scans (before ++ path ∷ []) (sources ++ (path, entry) ∷ []) a c → bytes_of sources ≤ MAX_SCAN_BYTES
-    → bytes ≡ bytes_of (sources ++ (path, entry) ∷ []) → MAX_SCAN_BYTES < bytes → PassBytes scans paths a c bytes
+    → before ++ path ∷ rest ≡ paths → IsReadSoFar scans (before ++ path ∷ []) (sources ++ (path, entry) ∷ []) a c → bytes_of sources ≤ scan_bytes_limit
+    → bytes ≡ bytes_of (sources ++ (path, entry) ∷ []) → scan_bytes_limit < bytes → PassBytes scans paths a c bytes
 pass_here scans paths before path rest sources entry a c bytes cut read within is passed = record {
   first = sources;
   last = (path, entry);

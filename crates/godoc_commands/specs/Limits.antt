@@ -1,7 +1,6 @@
 -- Cited by public clauses. Which trees are too large. The project's own.
 use Rattle.std.specs.Prelude.{◌≡◌, ℕ, ◌<◌, ◌≤◌, ◌⊎◌, List, [], ◌∷◌, ◌++◌, length, All, Option}
-use Rattle.corpus.specs.declared.snapshot.TheConstants.{MAX_FILES, MAX_SCAN_BYTES}
-use Rattle.corpus.specs.Snapshots.{bytes_of}
+use Rattle.corpus.specs.Snapshots.{bytes_of, files_limit, scan_bytes_limit}
 use Rattle.tree_io.specs.declared.tree.Entry.{Entry}
 use Rattle.tree_io.specs.Entries.{IsReadSoFar}
 use Rattle.tree_io.specs.Path.{Belongs, IsRising, paths_of}
@@ -20,7 +19,7 @@ pub record HasTooManyFiles (scans : Option (List Contents)) (before now files : 
   pub paths : List (List ℕ)
   pub listed : AreListed scans paths
   pub files_is : files ≡ length paths
-  pub passed : MAX_FILES < files
+  pub passed : files_limit < files
   pub no_read_failed : now ≡ before
 
 -- the first of these paths have sources of so many bytes, which are too many with the last of them
@@ -32,16 +31,16 @@ pub record PassBytes (scans : Option (List Contents)) (paths : List (List ℕ))
   pub rest : List (List ℕ)
   pub all : paths_of (first ++ last ∷ []) ++ rest ≡ paths
   pub read : IsReadSoFar scans (paths_of (first ++ last ∷ [])) (first ++ last ∷ []) before now
-  pub within : bytes_of first ≤ MAX_SCAN_BYTES
+  pub within : bytes_of first ≤ scan_bytes_limit
   pub bytes_is : bytes ≡ bytes_of (first ++ last ∷ [])
-  pub passed : MAX_SCAN_BYTES < bytes
+  pub passed : scan_bytes_limit < bytes
 
 -- the files of the scan under way aren't too many, but the first of them have so many bytes, which
 -- are too many
 pub record HasTooManyBytes (scans : Option (List Contents)) (before now bytes : ℕ) : Type 0 where
   pub paths : List (List ℕ)
   pub listed : AreListed scans paths
-  pub few : length paths ≤ MAX_FILES
+  pub few : length paths ≤ files_limit
   pub first : PassBytes scans paths before now bytes
 
 -- the scan under way is too large, by so many files or by so many bytes; the other number is 0

@@ -3,8 +3,7 @@
 ghost use Rattle.std.specs.Prelude.{◌≡◌, ◌≢◌, ◌≤◌, Err, All, IfErr, IfOk, IsErrOf, IsSome, OnOk};
 ghost use Rattle.std.specs.Option.{ForSome};
 ghost use Rattle.corpus.specs.Corpora.{AreFilesOf};
-ghost use Rattle.corpus.specs.Snapshots.{IsWithinLimits, bytes_of, source_set};
-ghost use Rattle.corpus.specs.declared.snapshot.TheConstants.{MAX_SCAN_BYTES};
+ghost use Rattle.corpus.specs.Snapshots.{IsWithinLimits, bytes_of, scan_bytes_limit, source_set};
 ghost use Rattle.plain_data.specs.Causes.{IsCaused};
 ghost use Rattle.tree_io.specs.Entries.{IsReadSoFar, IsScannedFrom};
 ghost use Rattle.tree_io.specs.Scans.{OpensScan, under_way};
@@ -130,7 +129,7 @@ fn read_files<T: Tree>(
         (λ told. All (λ path. IsSome (bytes_at (under_way told) path)) paths) }
     ensures read { IfOk result (λ sources. IsReadSoFar (T.scans tree.old) paths sources
         (T.read_faults tree.old) (T.read_faults tree.new)) }
-    ensures within { IfOk result (λ sources. bytes_of sources ≤ MAX_SCAN_BYTES) }
+    ensures within { IfOk result (λ sources. bytes_of sources ≤ scan_bytes_limit) }
     ensures refused { IfErr result (IsReadFault (T.scans tree.old) paths
         (T.read_faults tree.old) (T.read_faults tree.new)) }
     ensures later { T.read_faults tree.old ≤ T.read_faults tree.new }

@@ -6,8 +6,7 @@ use Rattle.std.proofs.lemmas.List.Elements.{All-nil, All-cons, All-append, All-t
 use Rattle.std.proofs.lemmas.List.Splits.{slice_split_at}
 use Rattle.std.proofs.lemmas.Bool.{ne_eqb}
 use Rattle.std.proofs.Math.Seq.{drop-append-add, take-append_seam}
-use Rattle.tree_io.specs.declared.path.TheConstants.{MAX_PATH_BYTES}
-use Rattle.tree_io.specs.Path.{Belongs, IsPathByte, IsPlainSegment, MayLead, segments_of, slash}
+use Rattle.tree_io.specs.Path.{Belongs, IsPathByte, IsPlainSegment, MayLead, path_limit, segments_of, slash}
 use Rattle.tree_io.proofs.Segments.{AreSource, AreSource-cons, AreSource-head, AreSource-one, length-segments_of}
 
 abbrev file : List ℕ
@@ -36,7 +35,7 @@ go_suffix name =
     let place : length (name ++ 47 ∷ 97 ∷ 46 ∷ 103 ∷ 111 ∷ []) - 3 ≡ length name + 2 = omega (arith, length-append name (47 ∷ 97 ∷ 46 ∷ 103 ∷ 111 ∷ [])) in
     rw (place, drop-append-add name (47 ∷ 97 ∷ 46 ∷ 103 ∷ 111 ∷ []) 2) refl
 
-belongs_below : (name : List ℕ) → All (λ b. b ≢ slash) name → length name + 5 ≤ MAX_PATH_BYTES → MayLead name → Belongs (name ++ slash ∷ file)
+belongs_below : (name : List ℕ) → All (λ b. b ≢ slash) name → length name + 5 ≤ path_limit → MayLead name → Belongs (name ++ slash ∷ file)
 belongs_below name none short leads =
     let one : segments_of file ≡ file ∷ [] = refl in
     let all : AreSource (name ∷ segments_of file) =
@@ -61,6 +60,6 @@ leads_above name rest none belongs =
       printable = subst (All IsPathByte) (take-append_seam name (slash ∷ rest)) (All-take IsPathByte (length name) (name ++ slash ∷ rest) belongs.printable);
     }
 
-pub names_that_lead : (name : List ℕ) → All (λ b. b ≢ slash) name → length name + length (codes "/a.go") ≤ MAX_PATH_BYTES
+pub names_that_lead : (name : List ℕ) → All (λ b. b ≢ slash) name → length name + length (codes "/a.go") ≤ path_limit
     → (MayLead name ↔ ((rest : List ℕ) × Belongs (name ++ slash ∷ rest)))
 names_that_lead name none short = (λ leads. (file, belongs_below name none short leads), λ below. leads_above name below.0 none below.1)

@@ -1,11 +1,10 @@
 -- Cited by public clauses. What reading the files of a scan one after another gives. The project's
 -- own.
-use Rattle.std.specs.Prelude.{◌≡◌, ℕ, ◌≤◌, List, length, Option, All, IfSome, ⊤}
+use Rattle.std.specs.Prelude.{◌≡◌, ℕ, ◌≤◌, List, length, option_map, Option, All, IfSome, ⊤}
 use Rattle.plain_data.specs.Causes.{RoseBy}
 use Rattle.tree_io.specs.Path.{paths_of}
-use Rattle.tree_io.specs.Sources.{Contents, Sources, IsFrom, IsSources, unread_count}
-use Rattle.tree_io.specs.Scans.{IsListed, under_way}
-use Rattle.tree_io.specs.declared.tree.TheConstants.{MAX_FILE_BYTES}
+use Rattle.tree_io.specs.Sources.{Contents, Sources, IsFrom, IsSources, file_limit, unread_count}
+use Rattle.tree_io.specs.Scans.{under_way}
 use Rattle.tree_io.specs.declared.tree.Entry.{Entry}
 use Rattle.tree_io.specs.declared.tree.Entry.TheVariants.{Bytes}
 
@@ -17,17 +16,25 @@ pub record IsReadSoFar (scans : Option (List Contents)) (paths : List (List ℕ)
   pub entries : IfSome scans (λ told. All (IsFrom (under_way told)) sources)
   pub failed_reads : RoseBy (unread_count sources) before now
 
--- sources that the scan under way gave, while the count of read faults went from before to now: a
--- set of sources, of which as many are `Unread` as that count rose by, up to its end; where scans
--- are told they have the paths of the scan under way, and what it has there or `Unread`
+-- a set of sources that a scan of these contents gave, where the tree exposes them: it has their
+-- paths, and at each path what they have there or `Unread`; so many entries are `Unread`
+pub record IsScanOf (contents : Option Contents) (sources : Sources) (unread : ℕ) : Type 0 where
+  pub valid : IsSources sources
+  pub paths : IfSome contents (λ found. paths_of sources ≡ paths_of found)
+  pub entries : IfSome contents (λ found. All (IsFrom found) sources)
+  pub unread_is : unread ≡ unread_count sources
+
+-- sources of the last of these scans, of which as many are `Unread` as the count of failed reads
+-- rose by, up to its end
 pub record IsScannedFrom (scans : Option (List Contents)) (sources : Sources)
     (before now : ℕ) : Type 0 where
-  pub valid : IsSources sources
-  pub failed_reads : RoseBy (unread_count sources) before now
-  pub same_paths : IsListed scans (paths_of sources)
-  pub entries : IfSome scans (λ told. All (IsFrom (under_way told)) sources)
+  pub contents : Option Contents
+  pub rise : ℕ
+  pub scan : IsScanOf contents sources rise
+  pub last : contents ≡ option_map under_way scans
+  pub rose : RoseBy rise before now
 
--- an entry that has at most MAX_FILE_BYTES bytes
+-- an entry that has at most `file_limit` bytes
 abbrev pub IsSmall : Entry → Type 0
-IsSmall (Bytes bytes) = length bytes ≤ MAX_FILE_BYTES
+IsSmall (Bytes bytes) = length bytes ≤ file_limit
 IsSmall entry = ⊤

@@ -5,7 +5,10 @@ use Rattle.std.specs.List.{slice_split, ends_with}
 use Rattle.std.specs.List.Sorted.{IsStrictlySortedBy}
 use Rattle.std.specs.Cmp.Lexicographic.{slice_cmp}
 use Rattle.std.specs.Ordering.{nat_cmp}
-use Rattle.tree_io.specs.declared.path.TheConstants.{MAX_PATH_BYTES}
+
+-- the most bytes of a path
+abbrev pub path_limit : ℕ
+path_limit = 4096
 
 abbrev pub slash : ℕ
 slash = 47
@@ -54,7 +57,7 @@ pub record MayLead (name : List ℕ) : Type 0 where
 -- a path of a Go file under the root
 pub record Belongs (path : List ℕ) : Type 0 where
   pub go_file : IsTrue (ends_with nat_eq path (codes ".go"))
-  pub short : length path ≤ MAX_PATH_BYTES
+  pub short : length path ≤ path_limit
   pub printable : All IsPathByte path
   pub segments : All IsPlainSegment (segments_of path)
   pub folders : All IsSourceFolder (folders_of path)

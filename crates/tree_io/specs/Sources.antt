@@ -4,9 +4,12 @@ use Rattle.std.specs.Prelude.{◌≡◌, ℕ, ◌≤◌, Bool, true, false, List
 use Rattle.std.specs.Map.{lookup}
 use Rattle.std.specs.Str.{bytes_eq}
 use Rattle.tree_io.specs.Path.{HasSourcePaths}
-use Rattle.tree_io.specs.declared.tree.TheConstants.{MAX_FILE_BYTES}
 use Rattle.tree_io.specs.declared.tree.Entry.{Entry}
 use Rattle.tree_io.specs.declared.tree.Entry.TheVariants.{Bytes, Large, Unread}
+
+-- the most bytes that are kept of a file
+abbrev pub file_limit : ℕ
+file_limit = 4194304
 
 -- paths, each with the bytes of its file
 abbrev pub Contents : Type 0
@@ -26,11 +29,11 @@ bytes_at contents path = lookup (bytes_eq path) contents
 
 -- what a read of these bytes gives
 abbrev pub entry_of : List ℕ → Entry
-entry_of bytes = if nat_lt MAX_FILE_BYTES (length bytes) then Large else Bytes bytes
+entry_of bytes = if nat_lt file_limit (length bytes) then Large else Bytes bytes
 
 -- an entry that a read can give
 abbrev pub IsReadable : Entry → Type 0
-IsReadable (Bytes bytes) = length bytes ≤ MAX_FILE_BYTES
+IsReadable (Bytes bytes) = length bytes ≤ file_limit
 IsReadable Large = Unit {0}
 IsReadable Unread = ⊥
 

@@ -5,7 +5,10 @@ use Rattle.std.specs.Fs.{IsDir}
 use Rattle.std.specs.declared.fs.attrs.FileType.{FileType}
 use Rattle.tree_io.specs.Path.{Belongs}
 use Rattle.tree_io.specs.declared.walk.Walk.{Walk}
-use Rattle.tree_io.specs.declared.walk.TheConstants.{MAX_ENTRIES}
+
+-- the most entries that a walk meets
+abbrev pub entry_limit : ℕ
+entry_limit = 4000000
 
 -- the folders that are still to be walked, and the paths found so far
 abbrev pub folders_in : Walk → List (List ℕ)
@@ -20,13 +23,13 @@ FindsSources walk = All (λ path. Belongs (string_bytes path)) walk.paths.items
 
 -- a walk has met no more entries than one may, and the paths that it found belong
 pub record IsWalk (walk : Walk) : Type 0 where
-  pub met : walk.met ≤ MAX_ENTRIES
+  pub met : walk.met ≤ entry_limit
   pub belong : FindsSources walk
 
 -- the most folders that a walk may still read: those it has found, and one for each entry that it
 -- may still meet
 abbrev pub most_ahead : Walk → ℕ
-most_ahead walk = vec_len walk.folders + (MAX_ENTRIES - walk.met)
+most_ahead walk = vec_len walk.folders + (entry_limit - walk.met)
 
 -- a walk went on, and has no more ahead than it had
 pub record GoesOn (old new : Walk) : Type 0 where

@@ -6,7 +6,7 @@ ghost use Rattle.std.specs.declared.fs.attrs.FileType.{FileType};
 ghost use Rattle.plain_data.specs.Causes.{IsFailOf};
 ghost use Rattle.tree_io.specs.Path.{Belongs, IsRising, MayLead};
 ghost use Rattle.tree_io.specs.Places.{joined};
-ghost use Rattle.tree_io.specs.Walks.{FindsSources, GainsFolder, GainsNothing, GainsPath, GoesOn, IsWalk, Meets};
+ghost use Rattle.tree_io.specs.Walks.{FindsSources, GainsFolder, GainsNothing, GainsPath, GoesOn, IsWalk, Meets, entry_limit};
 
 use crate::path::{belongs, has_path_bytes, is_source_folder};
 use crate::place::{full_path, join};
@@ -117,8 +117,8 @@ fn visit<R: Files + Drop>(
 ) -> Result<(), IoFail>
     requires walk { IsWalk walk.old }
     ensures error { IfErr entry (λ error. IsErrAnd result (IsFailOf error)) }
-    ensures full { IsOk entry → walk.old.met ≡ MAX_ENTRIES → result ≡ Err IoFail.Failed }
-    ensures passed_over { IfOk entry (λ entry. walk.old.met < MAX_ENTRIES
+    ensures full { IsOk entry → walk.old.met ≡ entry_limit → result ≡ Err IoFail.Failed }
+    ensures passed_over { IfOk entry (λ entry. walk.old.met < entry_limit
         → ¬ MayLead (dir_entry_name entry) → IsOk result × GainsNothing walk.old walk.new) }
     ensures meets { IfOk entry (λ entry. MayLead (dir_entry_name entry)
         → OnOk result ((kind : FileType)
@@ -140,11 +140,11 @@ pub fn visit_named(
     walk: &mut Walk,
 ) -> Result<(), IoFail>
     requires walk { IsWalk walk.old }
-    ensures full { walk.old.met ≡ MAX_ENTRIES → result ≡ Err IoFail.Failed }
-    ensures no_kind { walk.old.met < MAX_ENTRIES → MayLead name.now
+    ensures full { walk.old.met ≡ entry_limit → result ≡ Err IoFail.Failed }
+    ensures no_kind { walk.old.met < entry_limit → MayLead name.now
         → IfErr kind (λ error. IsErrAnd result (IsFailOf error)) }
-    ensures no_fault { walk.old.met < MAX_ENTRIES → IsOk kind → result ≢ Err IoFail.Failed }
-    ensures passed_over { walk.old.met < MAX_ENTRIES → ¬ MayLead name.now
+    ensures no_fault { walk.old.met < entry_limit → IsOk kind → result ≢ Err IoFail.Failed }
+    ensures passed_over { walk.old.met < entry_limit → ¬ MayLead name.now
         → IsOk result × GainsNothing walk.old walk.new }
     ensures meets { MayLead name.now → IfOk kind (λ kind.
         OnOk result (Meets (joined folder.now name.now) kind walk.old walk.new)) }

@@ -1,5 +1,5 @@
 use Rattle.std.proofs.Common.{◌≡◌}
-use Rattle.tests_serving.proofs.heads.log_heads.Given as goal
+use Rattle.cases_requests.proofs.streams.push_heads.Given as goal
 
 abbrev pub invariant-loop : goal.invariant-loop
 invariant-loop l = l.heads.ended ≡ l.fn.heads.ended

@@ -1,5 +1,5 @@
 use Rattle.std.proofs.Common.{◌≡◌, false}
-use Rattle.tests_serving.proofs.heads.heads_in.Given as goal
+use Rattle.cases_requests.proofs.streams.requests_in.Given as goal
 
 abbrev pub invariant-loop-piece : goal.invariant-loop-piece
 invariant-loop-piece l = l.heads.ended ≡ false
