@@ -13,3 +13,5 @@ pub mod Texts
 pub mod Tokens
 pub mod TypeParameters
 pub mod Types
+-- For types that hold themselves in a value with several owners.
+pub mod formers

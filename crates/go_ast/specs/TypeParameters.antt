@@ -13,8 +13,13 @@ use Rattle.go_ast.specs.Marks.{same_mark}
 use Rattle.go_ast.specs.Cutting.{pieces}
 use Rattle.go_ast.specs.Types.{AreTerms, Spells}
 
+-- a type parameter whose entry has a bound
 abbrev pub type_param : Span → List Term → TypeParam
-type_param name bound = record { name = name; bound = bound }
+type_param name bound = record { name = name; bound = bound; shares = false }
+
+-- a type parameter whose name stands alone in its entry, with the bound of the next
+abbrev pub sharing_type_param : Span → List Term → TypeParam
+sharing_type_param name bound = record { name = name; bound = bound; shares = true }
 
 -- entries of names, where a name alone shares the bound of the next
 pub data Entries : List (List Word) → List TypeParam → Type 0 where
@@ -27,7 +32,7 @@ pub data Entries : List (List Word) → List TypeParam → Type 0 where
       → Entries ((name ∷ ws) ∷ es) (type_param name.span xs ∷ ps)
   shared : (name : Word) {es : List (List Word)} {p : TypeParam} {ps : List TypeParam}
       → name.mark ≡ m.Ident → Entries es (p ∷ ps)
-      → Entries ((name ∷ []) ∷ es) (type_param name.span p.bound ∷ p ∷ ps)
+      → Entries ((name ∷ []) ∷ es) (sharing_type_param name.span p.bound ∷ p ∷ ps)
 
 -- a token that no expression for a length in this place has
 abbrev pub shows_bound : Word → Bool

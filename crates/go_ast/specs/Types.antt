@@ -20,8 +20,15 @@ use Rattle.go_ast.specs.declared.word.Mark.TheVariants as m
 use Rattle.go_ast.specs.Marks.{same_mark, words_of}
 use Rattle.go_ast.specs.Cutting.{Encloses, pieces, Each, last_of, range_of, is_run}
 
+-- a parameter whose entry has a type
 abbrev pub param : Option Span → TypeExpr → Bool → Param
-param name x variadic = roll-Param (record { name = name; typ = x; variadic = variadic })
+param name x variadic =
+    roll-Param (record { name = name; typ = x; variadic = variadic; shares = false })
+
+-- a parameter whose name stands alone in its entry, with the type of the next
+abbrev pub sharing_param : Span → TypeExpr → Param
+sharing_param name x =
+    roll-Param (record { name = Some name; typ = x; variadic = false; shares = true })
 
 abbrev pub signature : List Param → List Param → Signature
 signature params results = roll-Signature (record { params = params; results = results })
@@ -57,7 +64,7 @@ module _ (S : List Word → TypeExpr → Type 0) where
     shared : (dots : Bool) (name : Word) {es : List (List Word)} {p : Param} {ps : List Param}
         → name.mark ≡ m.Ident → Named dots es (p ∷ ps)
         → (out-Param p).variadic ≡ false
-        → Named dots ((name ∷ []) ∷ es) (param (Some name.span) (out-Param p).typ false ∷ p ∷ ps)
+        → Named dots ((name ∷ []) ∷ es) (sharing_param name.span (out-Param p).typ ∷ p ∷ ps)
 
   -- parameters without names
   pub data Unnamed : Bool → List (List Word) → List Param → Type 0 where

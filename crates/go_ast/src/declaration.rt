@@ -1,17 +1,20 @@
 //! The declarations of a file (Go specification, "Declarations and scope").
 
+use crate::shared::Shared;
 use crate::token::{Span, TokenRange};
 use crate::tree::{Signature, Term, TypeExpr};
 use plain_data::Seq;
 
 /// A type parameter (Go specification, "Type parameter declarations"). Names that share a bound are
-/// one type parameter each.
+/// one type parameter each, and own its terms together.
 #[derive(Debug, Drop)]
 pub struct TypeParam {
     /// The name.
     pub name: Span,
     /// The terms of its constraint, of which there is at least one.
-    pub bound: Seq<Term>,
+    pub bound: Shared<Seq<Term>>,
+    /// Whether the name stands alone in its entry, so that the bound is the next parameter's.
+    pub shares: bool,
 }
 
 /// A declaration of imports, constants, variables or types: one keyword and its specs.

@@ -14,9 +14,9 @@
 mod config;
 mod declaration;
 mod fault;
+mod shared;
 mod token;
 mod tree;
-mod tree_copy;
 mod word;
 
 pub use config::{Config, copy_config};
@@ -25,7 +25,7 @@ pub use declaration::{
 };
 pub use fault::{Fault, Refused, copy_fault};
 pub use plain_data::{Bytes, Failed, IoFail, Mem, NoMemory, Seq, Txt};
+pub use shared::Shared;
 pub use token::{Comment, MAX_SOURCE_BYTES, Scanned, Span, Token, TokenKind, TokenRange};
 pub use tree::{ChanDir, Element, Field, MAX_TYPE_LEVELS, Param, Signature, Term, TypeExpr};
-pub use tree_copy::{copy_terms, copy_type};
 pub use word::{Mark, Word};

@@ -3,6 +3,7 @@
 //! Names, tags and length runs are places in the source and in its list of tokens. Parentheses
 //! round a type leave no node.
 
+use crate::shared::Shared;
 use crate::token::{Span, TokenRange};
 use plain_data::Seq;
 use sqlite_items::Boxed;
@@ -69,16 +70,18 @@ pub enum TypeExpr {
 }
 
 /// A parameter or a result (Go specification, "Function types"). Names that share a type are one
-/// parameter each.
+/// parameter each, and own its tree together.
 #[cycle(types)]
 #[derive(Debug, Drop)]
 pub struct Param {
     /// The name, where parameters have names.
     pub name: Option<Span>,
     /// The type, without the three dots.
-    pub typ: TypeExpr,
+    pub typ: Shared<TypeExpr>,
     /// Whether three dots stand before the type.
     pub variadic: bool,
+    /// Whether the name stands alone in its entry, so that the type is the next parameter's.
+    pub shares: bool,
 }
 
 /// The parameters and the results of a function, each in their order.
