@@ -89,7 +89,7 @@ fn push_type_params(line: &mut String, source: &str, params: &[TypeParam]) -> Me
         }
         push_span(line, source, param.name)?;
         line.push_str(" ")?;
-        push_terms(line, source, &param.bound)?;
+        push_terms(line, source, param.bound.get())?;
     }
     line.push_str("]")?;
     Ok(())

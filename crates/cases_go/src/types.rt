@@ -123,7 +123,7 @@ fn push_params(line: &mut String, source: &str, params: &Seq<Param>) -> Mem<()> 
         if param.variadic {
             line.push_str("...")?;
         }
-        push_type(line, source, &param.typ)?;
+        push_type(line, source, param.typ.get())?;
     }
     line.push_str(")")?;
     Ok(())

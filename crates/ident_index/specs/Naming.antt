@@ -3,6 +3,7 @@
 -- Language Specification, "Declarations and scope"). Names in expressions and bodies are in no
 -- tree.
 use Rattle.std.specs.Prelude.{ℕ, List, [], ◌∷◌, ◌++◌, Option, Some, None, map}
+use Rattle.std.specs.Prelude.{if◌then◌else◌}
 use Rattle.std.specs.List.{flat_map}
 use Rattle.go_ast.specs.declared.token.Span.{Span}
 use Rattle.go_ast.specs.declared.tree.TypeExpr.{TypeExpr}
@@ -53,9 +54,10 @@ type_step (TypeExpr-F.Func sig) = sig
 type_step (TypeExpr-F.Struct fields) = all_of fields
 type_step (TypeExpr-F.Interface elements) = all_of elements
 
+-- names of a type that the next parameter has too come there
 abbrev pub param_step : Param-F (List Name) (List Name) (List Name) (List Name) (List Name)
     (List Name) → List Name
-param_step param = param.typ
+param_step param = if param.shares then [] else param.typ
 
 abbrev pub signature_step : Signature-F (List Name) (List Name) (List Name) (List Name) (List Name)
     (List Name) → List Name
@@ -108,7 +110,7 @@ names_if_any None = []
 names_if_any (Some x) = names_of_type x
 
 abbrev pub names_of_type_param : TypeParam → List Name
-names_of_type_param param = flat_map names_of_term param.bound
+names_of_type_param param = if param.shares then [] else flat_map names_of_term param.bound
 
 abbrev pub import_name : ImportName → List Name
 import_name (imports.Named name) = declares kinds.ImportName name ∷ []

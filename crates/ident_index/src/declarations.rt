@@ -23,12 +23,22 @@ fn names_if_any(names: &mut Vec<Name>, typ: &Option<TypeExpr>) -> Mem<()>
     }
 }
 
+/// Adds nothing for a type parameter that shares the next one's bound, whose names come there.
+fn bound_names(names: &mut Vec<Name>, param: &TypeParam) -> Mem<()>
+    ensures { OnOk result (names.new.items ≡ names.old.items ++ names_of_type_param param.now) }
+{
+    if param.shares {
+        return Ok(());
+    }
+    terms_names(names, param.bound.get())
+}
+
 fn type_param_names(names: &mut Vec<Name>, params: &Seq<TypeParam>) -> Mem<()>
     ensures { OnOk result (names.new.items
         ≡ names.old.items ++ flat_map names_of_type_param params.now) }
 {
     for param in params.as_slice() {
-        terms_names(names, &param.bound)?;
+        bound_names(names, param)?;
     }
     Ok(())
 }

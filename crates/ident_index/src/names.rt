@@ -51,13 +51,24 @@ fn types_names(names: &mut Vec<Name>, types: &Seq<TypeExpr>) -> Mem<()>
     Ok(())
 }
 
+/// Adds nothing for a parameter that shares the next one's type, whose names come there.
+#[cycle(declaring)]
+fn param_names(names: &mut Vec<Name>, param: &Param) -> Mem<()>
+    ensures { OnOk result (names.new.items ≡ names.old.items ++ names_of_param param.now) }
+{
+    if param.shares {
+        return Ok(());
+    }
+    type_names(names, param.typ.get())
+}
+
 #[cycle(declaring)]
 fn params_names(names: &mut Vec<Name>, params: &Seq<Param>) -> Mem<()>
     ensures { OnOk result (names.new.items
         ≡ names.old.items ++ flat_map names_of_param params.now) }
 {
     for param in params.as_slice() {
-        type_names(names, &param.typ)?;
+        param_names(names, param)?;
     }
     Ok(())
 }

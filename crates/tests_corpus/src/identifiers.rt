@@ -3,7 +3,7 @@ ghost use Rattle.ident_index.specs.Postings.{HasNames};
 
 use go_ast::{
     Decl, Element, Field, File, FuncDecl, Group, ImportName, ImportSpec, MAX_SOURCE_BYTES, Param,
-    Receiver, Signature, Span, Term, TokenRange, TypeExpr, TypeParam, TypeSpec, ValueSpec,
+    Receiver, Shared, Signature, Span, Term, TokenRange, TypeExpr, TypeParam, TypeSpec, ValueSpec,
 };
 use go_scanner::scan;
 use ident_index::{Hit, HitFile, Postings, Steps, hits_of, names_of_hits};
@@ -302,12 +302,13 @@ fn field(alloc: Global, names: &[u32], typ: u32) -> Mem<Field> {
     })
 }
 
-fn parameter(name: u32, typ: TypeExpr) -> Param {
-    Param {
+fn parameter(alloc: Global, name: u32, typ: TypeExpr) -> Mem<Param> {
+    Ok(Param {
         name: Some(letter(name)),
-        typ,
+        typ: Shared::new(alloc, typ)?,
         variadic: false,
-    }
+        shares: false,
+    })
 }
 
 fn term(alloc: Global, typ: u32) -> Term {
@@ -397,15 +398,16 @@ fn fields_and_methods_of_types_are_declared(rt: HostRuntime) -> Result<(), Fail>
     let fields = two(alloc, field(alloc, &[31, 34], 36)?, field(alloc, &[], 39)?)?;
     let param = TypeParam {
         name: letter(17),
-        bound: one(alloc, term(alloc, 19))?,
+        bound: Shared::new(alloc, one(alloc, term(alloc, 19))?)?,
+        shares: false,
     };
     decls.push(type_decl(alloc, 15, one(alloc, param)?, TypeExpr::Struct(fields))?)?;
     let method = Element::Method {
         tokens: no_tokens(),
         name: letter(64),
         sig: Signature {
-            params: one(alloc, parameter(66, named(alloc, 68)))?,
-            results: one(alloc, parameter(72, named(alloc, 74)))?,
+            params: one(alloc, parameter(alloc, 66, named(alloc, 68))?)?,
+            results: one(alloc, parameter(alloc, 72, named(alloc, 74))?)?,
         },
     };
     let embedded = Element::Terms {
@@ -424,7 +426,7 @@ fn fields_and_methods_of_types_are_declared(rt: HostRuntime) -> Result<(), Fail>
     Ok(())
 }
 
-/// A function with at most one parameter and no result.
+/// A function without results.
 fn function(alloc: Global, name: u32, receiver: Option<Receiver>, params: Seq<Param>) -> Decl {
     Decl::Func(FuncDecl {
         tokens: no_tokens(),
@@ -440,13 +442,34 @@ fn function(alloc: Global, name: u32, receiver: Option<Receiver>, params: Seq<Pa
 }
 
 #[test]
+fn what_two_parameters_share_is_declared(rt: HostRuntime) -> Result<(), Fail> {
+    let alloc = rt.alloc();
+    let source = "package p\nfunc f(a, b struct { x A }) {}\n";
+    let typ = TypeExpr::Struct(one(alloc, field(alloc, &[31], 33)?)?);
+    let last = parameter(alloc, 20, typ)?;
+    let first = Param {
+        name: Some(letter(17)),
+        typ: last.typ.share()?,
+        variadic: false,
+        shares: true,
+    };
+    let decl = function(alloc, 15, None, two(alloc, first, last)?);
+    let told = kinds_in(&rt, source, one(alloc, decl)?)?;
+    assert!(rt;
+        told.as_str()
+            == "1:8 PackageName 2:15 FuncName 2:17 Usage 2:20 Usage 2:31 VarName 2:33 Usage "
+    );
+    Ok(())
+}
+
+#[test]
 fn what_stands_in_a_body_is_a_use(rt: HostRuntime) -> Result<(), Fail> {
     let alloc = rt.alloc();
     let source = "package p\nfunc f(a struct { x A }) { type L struct { z B } }\n\
                   func (r *T) g() {}\n";
     let mut decls = Seq::new(alloc);
     let typ = TypeExpr::Struct(one(alloc, field(alloc, &[28], 30)?)?);
-    decls.push(function(alloc, 15, None, one(alloc, parameter(17, typ))?))?;
+    decls.push(function(alloc, 15, None, one(alloc, parameter(alloc, 17, typ)?)?))?;
     let receiver = Receiver {
         name: Some(letter(67)),
         pointer: true,

@@ -1,8 +1,4 @@
-use go_ast::{
-    ChanDir, Config, Element, Fault, Field, Mem, Param, Seq, Signature, Span, Term, TokenRange,
-    Txt, TypeExpr, copy_config, copy_fault, copy_type,
-};
-use sqlite_items::Boxed;
+use go_ast::{Config, Fault, Mem, Seq, Shared, Txt, copy_config, copy_fault};
 use std::alloc::Global;
 use std::test::Fail;
 
@@ -31,14 +27,6 @@ fn faults_are_told_with_their_numbers(rt: HostRuntime) -> Result<(), Fail> {
     Ok(())
 }
 
-fn span(start: u32, end: u32) -> Span {
-    Span { start, end }
-}
-
-fn range(first: u32, after: u32) -> TokenRange {
-    TokenRange { first, after }
-}
-
 /// The list of one thing.
 fn one<T: Drop>(alloc: Global, only: T) -> Mem<Seq<T>> {
     let mut list = Seq::new(alloc);
@@ -46,67 +34,15 @@ fn one<T: Drop>(alloc: Global, only: T) -> Mem<Seq<T>> {
     Ok(list)
 }
 
-/// A name without arguments.
-fn named(alloc: Global, at: u32) -> TypeExpr {
-    TypeExpr::Name {
-        qualifier: Some(span(0, at)),
-        name: span(at, at),
-        args: Seq::new(alloc),
-    }
-}
-
-/// A signature whose last parameter has three dots, and one result without a name.
-fn variadic(alloc: Global) -> Mem<Signature> {
-    let param = Param {
-        name: Some(span(1, 2)),
-        typ: TypeExpr::Slice(Boxed::new(alloc, named(alloc, 6))?),
-        variadic: true,
-    };
-    let result = Param {
-        name: None,
-        typ: TypeExpr::Func(Signature {
-            params: Seq::new(alloc),
-            results: Seq::new(alloc),
-        }),
-        variadic: false,
-    };
-    Ok(Signature {
-        params: one(alloc, param)?,
-        results: one(alloc, result)?,
-    })
-}
-
-/// A struct with one field, whose type is a map of channels and interfaces.
-fn structure(alloc: Global) -> Mem<TypeExpr> {
-    let method = Element::Method {
-        tokens: range(8, 11),
-        name: span(20, 22),
-        sig: variadic(alloc)?,
-    };
-    let channel = TypeExpr::Chan {
-        dir: ChanDir::Receive,
-        elem: Boxed::new(alloc, named(alloc, 12))?,
-    };
-    let map = TypeExpr::Map {
-        key: Boxed::new(alloc, channel)?,
-        value: Boxed::new(alloc, TypeExpr::Interface(one(alloc, method)?))?,
-    };
-    let field = Field {
-        tokens: range(2, 12),
-        names: one(alloc, span(4, 5))?,
-        typ: TypeExpr::Pointer(Boxed::new(alloc, map)?),
-        tag: Some(span(24, 28)),
-    };
-    Ok(TypeExpr::Struct(one(alloc, field)?))
-}
-
+/// A value of which each owner gets the same, also when the others are gone.
 #[test]
-fn a_copied_type_is_the_type(rt: HostRuntime) -> Result<(), Fail> {
-    let typ = structure(rt.alloc())?;
-    let copied = copy_type(rt.alloc(), &typ)?;
-    let wanted = format!(in rt.alloc(); "{typ:?}")?;
-    let told = format!(in rt.alloc(); "{copied:?}")?;
-    assert!(rt; told.as_str() == wanted.as_str(), "{told}");
+fn owners_share_a_value(rt: HostRuntime) -> Result<(), Fail> {
+    let first = Shared::new(rt.alloc(), Txt::from_str(rt.alloc(), "shared")?)?;
+    let second = first.share()?;
+    let third = second.share()?;
+    drop(first);
+    drop(third);
+    assert!(rt; second.get().as_str() == "shared");
     Ok(())
 }
 

@@ -11,7 +11,7 @@ use Rattle.go_ast.specs.declared.word.Mark.{Mark}
 use Rattle.go_ast.specs.declared.word.Mark.TheVariants as m
 use Rattle.go_ast.specs.Cutting.{pieces, Encloses}
 use Rattle.go_ast.specs.Marks.{same_mark}
-use Rattle.go_ast.specs.Types.{param, signature}
+use Rattle.go_ast.specs.Types.{param, sharing_param, signature}
 use Rattle.type_parser.specs.Cut.{enclosed}
 use Rattle.go_ast.specs.Types as g
 use Rattle.type_parser.specs.Reading as reads
@@ -91,7 +91,7 @@ module _ (f : List Word → Option TypeExpr) (S : List Word → TypeExpr → Typ
     where
       go : (t : Bool) → (out-Param p).variadic ≡ t
           → cond {A = Option (List Param)} t None
-          (Some (param (Some name.span) (out-Param p).typ false ∷ p ∷ ps)) ≡ Some qs
+          (Some (sharing_param name.span (out-Param p).typ ∷ p ∷ ps)) ≡ Some qs
           → g.Named S dots ((name ∷ []) ∷ es) qs
       go true t e = absurd (cc)
       go false t e = subst (g.Named S dots ((name ∷ []) ∷ es)) (some-is _ qs e)

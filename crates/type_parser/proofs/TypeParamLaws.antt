@@ -14,7 +14,8 @@ use Rattle.go_ast.specs.Cutting.{pieces}
 use Rattle.go_ast.specs.Marks.{same_mark}
 use Rattle.go_ast.specs.Types.{AreTerms, Declared, IsSignature, Spells}
 use Rattle.go_ast.specs.TypeParameters as g
-use Rattle.go_ast.specs.TypeParameters.{AreTypeParams, Entries, type_param, is_array_like}
+use Rattle.go_ast.specs.TypeParameters.{AreTypeParams, Entries, type_param}
+use Rattle.go_ast.specs.TypeParameters.{is_array_like, sharing_type_param}
 use Rattle.type_parser.specs.Reading.{◌>>=◌, ◌<$>◌, not_empty, type_of, read_signature, read_terms}
 use Rattle.type_parser.specs.Reading.{declared}
 use Rattle.type_parser.specs.TypeParams as reads
@@ -52,7 +53,7 @@ unfolding reads.entry
 earlier-entry [] p next es ps others e = absurd (cc)
 earlier-entry (name ∷ []) p next es ps others e =
     let test = guard_some (same_mark name.mark m.Ident)
-    (Some (type_param name.span next.bound)) p e in
+    (Some (sharing_type_param name.span next.bound)) p e in
     subst (λ q. Entries ((name ∷ []) ∷ es) (q ∷ next ∷ ps)) (some-is _ p test.1)
     (g.shared name (marks_are name.mark m.Ident test.0) others)
 earlier-entry (name ∷ w ∷ ws) p next es ps others e =

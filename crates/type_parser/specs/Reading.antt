@@ -14,7 +14,7 @@ use Rattle.go_ast.specs.declared.word.Mark.{Mark}
 use Rattle.go_ast.specs.declared.word.Mark.TheVariants as m
 use Rattle.go_ast.specs.Cutting.{pieces, range_of, last_of, is_run}
 use Rattle.go_ast.specs.Marks.{same_mark}
-use Rattle.go_ast.specs.Types.{param, signature, field, term, split_tag}
+use Rattle.go_ast.specs.Types.{param, sharing_param, signature, field, term, split_tag}
 use Rattle.type_parser.specs.Cut.{enclosed}
 use Rattle.go_ast.specs.declared.tree.Param.{Param, out-Param}
 use Rattle.go_ast.specs.declared.tree.Signature.{Signature}
@@ -155,7 +155,7 @@ module _ (f : List Word → Option TypeExpr) where
   abbrev pub sharing : Word → List Param → Option (List Param)
   sharing name [] = None
   sharing name (p ∷ ps) = let next = out-Param p in
-      if next.variadic then None else Some (param (Some name.span) next.typ false ∷ p ∷ ps)
+      if next.variadic then None else Some (sharing_param name.span next.typ ∷ p ∷ ps)
 
   abbrev pub before_others : Word → List Word → List Param → Option (List Param)
   before_others name [] ps = sharing name ps

@@ -8,12 +8,12 @@ use Rattle.go_ast.specs.declared.word.Word.{Word}
 use Rattle.go_ast.specs.declared.word.Mark.TheVariants as m
 use Rattle.go_ast.specs.Cutting.{pieces}
 use Rattle.go_ast.specs.Marks.{same_mark}
-use Rattle.go_ast.specs.TypeParameters.{type_param, is_array_like}
+use Rattle.go_ast.specs.TypeParameters.{type_param, sharing_type_param, is_array_like}
 use Rattle.type_parser.specs.Reading.{◌>>=◌, ◌<$>◌, not_empty, read_terms}
 
 abbrev pub sharing : Word → Option TypeParam → Option TypeParam
 sharing name None = None
-sharing name (Some next) = Some (type_param name.span next.bound)
+sharing name (Some next) = Some (sharing_type_param name.span next.bound)
 
 module _ (f : List Word → Option TypeExpr) where
   -- a name, and the terms of its bound or the bound of the next

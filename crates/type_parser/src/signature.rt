@@ -3,7 +3,8 @@
 ghost use Rattle.std.specs.Prelude.{◌≡◌, IfOk, IfSome, ◌∷◌, [], ◌<◌, drop, length, reverse, true};
 ghost use Rattle.std.specs.Prelude.{Some, List};
 ghost use Rattle.std.specs.Option.{option_map};
-ghost use Rattle.go_ast.specs.declared.tree.Param.{Param};
+ghost use Rattle.go_ast.specs.declared.tree.Param.{Param, out-Param};
+ghost use Rattle.go_ast.specs.Types as rule;
 ghost use Rattle.std.specs.List.{list_any};
 ghost use Rattle.go_ast.specs.Cutting.{pieces};
 ghost use Rattle.go_ast.specs.declared.word.Mark.TheVariants as marks;
@@ -13,7 +14,7 @@ ghost use Rattle.type_parser.specs.Parts.{ReadsParts};
 
 use crate::reader::{Read, Reader};
 use crate::words::Words;
-use go_ast::{Mark, Mem, Param, Seq, Signature, TypeExpr, copy_type};
+use go_ast::{Mark, Mem, Param, Seq, Shared, Signature, Span, TypeExpr};
 use std::alloc::Global;
 
 /// The pieces between commas outside brackets.
@@ -77,6 +78,30 @@ fn some_looks_named(entries: &[Words<'_>]) -> bool
     false
 }
 
+/// A parameter whose entry has this type.
+fn param(alloc: Global, name: Option<Span>, typ: TypeExpr, variadic: bool) -> Mem<Param>
+    ensures { IfOk result (λ p. p ≡ rule.param name typ variadic) }
+{
+    Ok(Param {
+        name,
+        typ: Shared::new(alloc, typ)?,
+        variadic,
+        shares: false,
+    })
+}
+
+/// A parameter whose name stands alone in its entry, before the next one.
+fn sharing_param(name: Span, next: &Param) -> Mem<Param>
+    ensures { IfOk result (λ p. p ≡ rule.sharing_param name (out-Param next.now).typ) }
+{
+    Ok(Param {
+        name: Some(name),
+        typ: next.typ.share()?,
+        variadic: false,
+        shares: true,
+    })
+}
+
 impl<F: Fn(Global, usize, &Words<'_>) -> Read<TypeExpr>> Reader<F> {
     /// A type, or three dots and a type where they are allowed.
     #[tactic(auto, unfolding(crate::specs::Reading::typed))]
@@ -112,11 +137,9 @@ impl<F: Fn(Global, usize, &Words<'_>) -> Read<TypeExpr>> Reader<F> {
         match entry.split_first() {
             Some((name, rest)) if name.mark.is(Mark::Ident) => match self.typed(dots, &rest)? {
                 None => Ok(None),
-                Some((typ, variadic)) => Ok(Some(Param {
-                    name: Some(name.span),
-                    typ,
-                    variadic,
-                })),
+                Some((typ, variadic)) => {
+                    Ok(Some(param(self.alloc, Some(name.span), typ, variadic)?))
+                }
             },
             _ => Ok(None),
         }
@@ -133,11 +156,7 @@ impl<F: Fn(Global, usize, &Words<'_>) -> Read<TypeExpr>> Reader<F> {
         }
         match self.typed(dots, entry)? {
             None => Ok(None),
-            Some((typ, variadic)) => Ok(Some(Param {
-                name: None,
-                typ,
-                variadic,
-            })),
+            Some((typ, variadic)) => Ok(Some(param(self.alloc, None, typ, variadic)?)),
         }
     }
 
@@ -155,21 +174,16 @@ impl<F: Fn(Global, usize, &Words<'_>) -> Read<TypeExpr>> Reader<F> {
         if !name.mark.is(Mark::Ident) {
             return Ok(None);
         }
-        let typ = if !rest.is_empty() {
-            match self.part(&rest)? {
-                None => return Ok(None),
-                Some(typ) => typ,
+        if rest.is_empty() {
+            if next.variadic {
+                return Ok(None);
             }
-        } else if next.variadic {
-            return Ok(None);
-        } else {
-            copy_type(self.alloc, &next.typ)?
-        };
-        Ok(Some(Param {
-            name: Some(name.span),
-            typ,
-            variadic: false,
-        }))
+            return Ok(Some(sharing_param(name.span, next)?));
+        }
+        match self.part(&rest)? {
+            None => Ok(None),
+            Some(typ) => Ok(Some(param(self.alloc, Some(name.span), typ, false)?)),
+        }
     }
 
     /// An entry of parameters, before the next.
@@ -184,11 +198,7 @@ impl<F: Fn(Global, usize, &Words<'_>) -> Read<TypeExpr>> Reader<F> {
         }
         match self.part(entry)? {
             None => Ok(None),
-            Some(typ) => Ok(Some(Param {
-                name: None,
-                typ,
-                variadic: false,
-            })),
+            Some(typ) => Ok(Some(param(self.alloc, None, typ, false)?)),
         }
     }
 
@@ -258,11 +268,7 @@ impl<F: Fn(Global, usize, &Words<'_>) -> Read<TypeExpr>> Reader<F> {
             None => Ok(None),
             Some(typ) => {
                 let mut found = Seq::new(self.alloc);
-                found.push(Param {
-                    name: None,
-                    typ,
-                    variadic: false,
-                })?;
+                found.push(param(self.alloc, None, typ, false)?)?;
                 Ok(Some(found))
             }
         }

@@ -13,7 +13,7 @@ ghost use Rattle.type_parser.specs.Parts.{ReadsParts};
 use crate::reader::{Read, Reader, not_empty};
 use crate::signature::entries_of;
 use crate::words::Words;
-use go_ast::{Mark, Seq, TypeExpr, TypeParam, Word, copy_terms};
+use go_ast::{Mark, Seq, Shared, TypeExpr, TypeParam, Word};
 use std::alloc::Global;
 
 impl<F: Fn(Global, usize, &Words<'_>) -> Read<TypeExpr>> Reader<F> {
@@ -30,21 +30,24 @@ impl<F: Fn(Global, usize, &Words<'_>) -> Read<TypeExpr>> Reader<F> {
         if !name.mark.is(Mark::Ident) {
             return Ok(None);
         }
-        let bound = if !rest.is_empty() {
-            match self.terms(&rest)? {
-                None => return Ok(None),
-                Some(bound) => bound,
-            }
-        } else {
-            match next {
-                None => return Ok(None),
-                Some(next) => copy_terms(self.alloc, &next.bound)?,
-            }
-        };
-        Ok(Some(TypeParam {
-            name: name.span,
-            bound,
-        }))
+        if rest.is_empty() {
+            return match next {
+                None => Ok(None),
+                Some(next) => Ok(Some(TypeParam {
+                    name: name.span,
+                    bound: next.bound.share()?,
+                    shares: true,
+                })),
+            };
+        }
+        match self.terms(&rest)? {
+            None => Ok(None),
+            Some(bound) => Ok(Some(TypeParam {
+                name: name.span,
+                bound: Shared::new(self.alloc, bound)?,
+                shares: false,
+            })),
+        }
     }
 
     /// The type parameters of some entries, from the last to the first.
