@@ -115,21 +115,24 @@ abbrev pub BeginWithParams : List Word → Type 0
 BeginWithParams ws = (inner rest : List Word) × (params : List TypeParam)
     × Encloses m.OpenBracket m.CloseBracket ws inner rest × AreTypeParams inner params
 
--- a name and its type, after type parameters or none, or an alias ("Type declarations"); brackets
+-- the type that a name is declared as, after `=` where it is an alias
+pub data IsDeclaredType : List Word → Bool → TypeExpr → Type 0 where
+  defined : {ws : List Word} {x : TypeExpr} → Spells MAX_TYPE_LEVELS ws x
+      → IsDeclaredType ws false x
+  aliased : (equal : Word) {ws : List Word} {x : TypeExpr} → equal.mark ≡ m.Equal
+      → Spells MAX_TYPE_LEVELS ws x → IsDeclaredType (equal ∷ ws) true x
+
+-- a name, type parameters or none, and a type, perhaps after `=` ("Type declarations"); brackets
 -- that don't hold type parameters belong to the type
 pub data IsTypeSpec : List Word → TypeSpec → Type 0 where
-  defined : (name : Word) {ws : List Word} {x : TypeExpr} → name.mark ≡ m.Ident
-      → ¬ (BeginWithParams ws) → Spells MAX_TYPE_LEVELS ws x
-      → IsTypeSpec (name ∷ ws) (type_spec (range_of name ws) name.span [] false x)
-  generic : (name : Word) {ws inner rest : List Word} {params : List TypeParam} {x : TypeExpr}
-      → name.mark ≡ m.Ident
+  plain : (name : Word) {ws : List Word} {alias : Bool} {x : TypeExpr} → name.mark ≡ m.Ident
+      → ¬ (BeginWithParams ws) → IsDeclaredType ws alias x
+      → IsTypeSpec (name ∷ ws) (type_spec (range_of name ws) name.span [] alias x)
+  generic : (name : Word) {ws inner rest : List Word} {params : List TypeParam} {alias : Bool}
+      {x : TypeExpr} → name.mark ≡ m.Ident
       → Encloses m.OpenBracket m.CloseBracket ws inner rest → AreTypeParams inner params
-      → Spells MAX_TYPE_LEVELS rest x
-      → IsTypeSpec (name ∷ ws) (type_spec (range_of name ws) name.span params false x)
-  aliased : (name equal : Word) {ws : List Word} {x : TypeExpr} → name.mark ≡ m.Ident
-      → equal.mark ≡ m.Equal → Spells MAX_TYPE_LEVELS ws x
-      → IsTypeSpec (name ∷ equal ∷ ws)
-      (type_spec (range_of name (equal ∷ ws)) name.span [] true x)
+      → IsDeclaredType rest alias x
+      → IsTypeSpec (name ∷ ws) (type_spec (range_of name ws) name.span params alias x)
 
 -- one name
 pub data IsName : List Word → Span → Type 0 where

@@ -1,19 +1,21 @@
 -- Type declarations: what is read is spelled so, and what is spelled so is read.
-use Rattle.std.proofs.Common.{◌≡◌, ◌≢◌, refl, subst, ℕ, zero, suc, true, false}
+use Rattle.std.proofs.Common.{◌≡◌, ◌≢◌, refl, subst, ℕ, zero, suc, Bool, true, false}
 use Rattle.std.proofs.Common.{List, [], ◌∷◌, Option, Some, None, ⊎_elim}
 use Rattle.go_ast.specs.declared.declaration.TypeParam.{TypeParam}
 use Rattle.go_ast.specs.declared.declaration.TypeSpec.{TypeSpec}
+use Rattle.go_ast.specs.declared.token.Span.{Span}
+use Rattle.go_ast.specs.declared.token.TokenRange.{TokenRange}
 use Rattle.go_ast.specs.declared.tree.TheConstants.{MAX_TYPE_LEVELS}
 use Rattle.go_ast.specs.declared.tree.TypeExpr.{TypeExpr}
 use Rattle.go_ast.specs.declared.word.Word.{Word}
 use Rattle.go_ast.specs.declared.word.Mark.TheVariants as m
 use Rattle.go_ast.specs.Cutting.{Encloses, range_of}
 use Rattle.go_ast.specs.Declarations as g
-use Rattle.go_ast.specs.Declarations.{BeginWithParams, IsTypeSpec, type_spec}
+use Rattle.go_ast.specs.Declarations.{BeginWithParams, IsDeclaredType, IsTypeSpec, type_spec}
 use Rattle.go_ast.specs.Marks.{same_mark}
 use Rattle.go_ast.specs.TypeParameters.{AreTypeParams}
-use Rattle.go_parser.specs.Reading.{params_of, read_leading_params, read_defined, read_named_type}
-use Rattle.go_parser.specs.Reading.{read_type_spec, type_in}
+use Rattle.go_parser.specs.Reading.{params_of, read_declared_type, read_leading_params}
+use Rattle.go_parser.specs.Reading.{read_named_type, read_spec_of, read_type_spec, type_in}
 use Rattle.go_parser.proofs.GroupLaws.{StandsAlone}
 use Rattle.type_parser.specs.Cut.{enclosed}
 use Rattle.type_parser.specs.Reading.{◌>>=◌, ◌<$>◌, type_of}
@@ -74,74 +76,75 @@ leading-none ws none = go (read_leading_params ws) refl
     go (Some y) e = let found = leading-sound ws y e in
         absurd (none (found.0, y.1, y.0, found.1, found.2))
 
-defined-sound : (name w : Word) (ws : List Word) (x : TypeSpec)
+-- what the words after a name and its type parameters declare, as it is read
+declared-sound : (tokens : TokenRange) (name : Span) (params : List TypeParam) (ws : List Word)
+    (x : TypeSpec) → read_declared_type tokens name params ws ≡ Some x
+    → (alias : Bool) × (y : TypeExpr) × IsDeclaredType ws alias y
+    × (type_spec tokens name params alias y ≡ x)
+declared-sound tokens name params [] x e = absurd (cc e)
+declared-sound tokens name params (w ∷ ws) x e =
+    ⊎_elim
+    (λ p. let read = map_some (type_spec tokens name params true) (type_in ws) x p.1 in (
+      true,
+      read.0,
+      g.aliased w (marks_are w.mark m.Equal p.0)
+          (type-sound MAX_TYPE_LEVELS ws read.0 read.1),
+      read.2,
+    ))
+    (λ p. let read = map_some (type_spec tokens name params false) (type_in (w ∷ ws)) x p.1 in
+    (false, read.0, g.defined (type-sound MAX_TYPE_LEVELS (w ∷ ws) read.0 read.1), read.2))
+    (choice (same_mark w.mark m.Equal) (read_spec_of tokens name params true ws)
+    (read_spec_of tokens name params false (w ∷ ws)) (Some x) e)
+
+declared-complete : (tokens : TokenRange) (name : Span) (params : List TypeParam) (ws : List Word)
+    (alias : Bool) (x : TypeExpr) → IsDeclaredType ws alias x
+    → read_declared_type tokens name params ws ≡ Some (type_spec tokens name params alias x)
+declared-complete tokens name params [] _ x (g.defined s) =
+    absurd (cc (type-complete MAX_TYPE_LEVELS [] x s, (type-reads MAX_TYPE_LEVELS).nothing))
+declared-complete tokens name params (w ∷ ws) _ x (g.defined s) =
+    let read = type-complete MAX_TYPE_LEVELS (w ∷ ws) x s in
+    rw (marks_differ w.mark m.Equal (equal-ends MAX_TYPE_LEVELS w ws x read), read) refl
+declared-complete tokens name params _ _ x (g.aliased equal {ws} is s) =
+    rw (marks_same equal.mark m.Equal is, type-complete MAX_TYPE_LEVELS ws x s) refl
+
+named-sound : (name : Word) (ws : List Word) (x : TypeSpec)
     (o : Option (List TypeParam × List Word)) → name.mark ≡ m.Ident
-    → read_leading_params (w ∷ ws) ≡ o
-    → read_defined (range_of name (w ∷ ws)) name.span (w ∷ ws) o ≡ Some x
-    → IsTypeSpec (name ∷ w ∷ ws) x
-defined-sound name w ws x None is none e =
-    let read = map_some (type_spec (range_of name (w ∷ ws)) name.span [] false)
-    (type_in (w ∷ ws)) x e in
-    subst (IsTypeSpec (name ∷ w ∷ ws)) read.2
-    (g.defined name is
-    (λ p. absurd (cc (none, leading-complete (w ∷ ws) p.0 p.1 p.2 p.3 p.4)))
-    (type-sound MAX_TYPE_LEVELS (w ∷ ws) read.0 read.1))
-defined-sound name w ws x (Some (params, rest)) is some e =
-    let read = map_some (type_spec (range_of name (w ∷ ws)) name.span params false)
-    (type_in rest) x e in
-    let found = leading-sound (w ∷ ws) (params, rest) some in
-    subst (IsTypeSpec (name ∷ w ∷ ws)) read.2
-    (g.generic name is found.1 found.2 (type-sound MAX_TYPE_LEVELS rest read.0 read.1))
+    → read_leading_params ws ≡ o
+    → read_named_type (range_of name ws) name.span ws o ≡ Some x
+    → IsTypeSpec (name ∷ ws) x
+named-sound name ws x None is none e =
+    let found = declared-sound (range_of name ws) name.span [] ws x e in
+    subst (IsTypeSpec (name ∷ ws)) found.3
+    (g.plain name is (λ p. absurd (cc (none, leading-complete ws p.0 p.1 p.2 p.3 p.4))) found.2)
+named-sound name ws x (Some (params, rest)) is some e =
+    let found = declared-sound (range_of name ws) name.span params rest x e in
+    let leading = leading-sound ws (params, rest) some in
+    subst (IsTypeSpec (name ∷ ws)) found.3
+    (g.generic name is leading.1 leading.2 found.2)
 
 pub type_spec-sound : (ws : List Word) (x : TypeSpec) → read_type_spec ws ≡ Some x
     → IsTypeSpec ws x
 unfolding read_type_spec
 type_spec-sound [] x e = absurd (cc)
-type_spec-sound (name ∷ []) x e =
-    let test = guard_some (same_mark name.mark m.Ident) None x e in absurd (cc test.1)
-type_spec-sound (name ∷ w ∷ ws) x e =
-    let tokens = range_of name (w ∷ ws) in
+type_spec-sound (name ∷ ws) x e =
     let test = guard_some (same_mark name.mark m.Ident)
-    (read_named_type tokens name.span (w ∷ ws)) x e in
-    let is = marks_are name.mark m.Ident test.0 in
-    ⊎_elim
-    (λ p. let read = map_some (type_spec tokens name.span [] true) (type_in ws) x p.1 in
-    subst (IsTypeSpec (name ∷ w ∷ ws)) read.2
-    (g.aliased name w is (marks_are w.mark m.Equal p.0)
-    (type-sound MAX_TYPE_LEVELS ws read.0 read.1)))
-    (λ p. defined-sound name w ws x (read_leading_params (w ∷ ws)) is refl p.1)
-    (choice (same_mark w.mark m.Equal) (type_spec tokens name.span [] true <$> type_in ws)
-    (read_defined tokens name.span (w ∷ ws) (read_leading_params (w ∷ ws))) (Some x) test.1)
+    (read_named_type (range_of name ws) name.span ws (read_leading_params ws)) x e in
+    named-sound name ws x (read_leading_params ws) (marks_are name.mark m.Ident test.0) refl test.1
 
 pub type_spec-complete : (ws : List Word) (x : TypeSpec) → IsTypeSpec ws x
     → read_type_spec ws ≡ Some x
 unfolding read_type_spec
-type_spec-complete _ _ (g.defined name {ws = []} {x} is none s) =
-    absurd (cc (type-complete MAX_TYPE_LEVELS [] x s, (type-reads MAX_TYPE_LEVELS).nothing))
-type_spec-complete _ _ (g.defined name {ws = w ∷ ws} {x} is none s) =
-    let read = type-complete MAX_TYPE_LEVELS (w ∷ ws) x s in
+type_spec-complete _ _ (g.plain name {ws} {alias} {x} is none s) =
     rw (
       marks_same name.mark m.Ident is,
-      marks_differ w.mark m.Equal (equal-ends MAX_TYPE_LEVELS w ws x read),
-      leading-none (w ∷ ws) none,
-      read,
+      leading-none ws none,
+      declared-complete (range_of name ws) name.span [] ws alias x s,
     ) refl
-type_spec-complete _ _ (g.generic name {ws} {inner} {rest} {params} {x} is brackets spelled s) =
-    let begun = opens-with m.OpenBracket m.CloseBracket ws inner rest refl brackets in
-    let leading = subst (λ us. read_leading_params us ≡ Some (params, rest)) begun.2
-    (leading-complete ws inner rest params brackets spelled) in
-    rw (
-      begun.2,
-      marks_same name.mark m.Ident is,
-      marks_differ begun.0.mark m.Equal (λ e. absurd (cc (begun.3, e))),
-      leading,
-      type-complete MAX_TYPE_LEVELS rest x s,
-    ) refl
-type_spec-complete _ _ (g.aliased name equal {ws} {x} is is_equal s) =
+type_spec-complete _ _ (g.generic name {ws} {inner} {rest} {params} {alias} {x} is brackets spelled s) =
     rw (
       marks_same name.mark m.Ident is,
-      marks_same equal.mark m.Equal is_equal,
-      type-complete MAX_TYPE_LEVELS ws x s,
+      leading-complete ws inner rest params brackets spelled,
+      declared-complete (range_of name ws) name.span params rest alias x s,
     ) refl
 
 pub type_spec-alone : StandsAlone read_type_spec IsTypeSpec
@@ -150,6 +153,6 @@ type_spec-alone = record {
   nothing = refl;
   no_paren = λ w ws x e paren.
       let test = guard_some (same_mark w.mark m.Ident)
-      (read_named_type (range_of w ws) w.span ws) x e in
+      (read_named_type (range_of w ws) w.span ws (read_leading_params ws)) x e in
       absurd (cc (marks_are w.mark m.Ident test.0, paren));
 }

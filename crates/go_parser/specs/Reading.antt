@@ -121,23 +121,23 @@ read_leading_params (w ∷ ws) = if same_mark w.mark m.OpenBracket
 abbrev pub read_spec_of : TokenRange → Span → List TypeParam → Bool → List Word → Option TypeSpec
 read_spec_of tokens name params alias ws = type_spec tokens name params alias <$> type_in ws
 
-abbrev pub read_defined : TokenRange → Span → List Word → Option (List TypeParam × List Word)
-    → Option TypeSpec
-read_defined tokens name ws None = type_spec tokens name [] false <$> type_in ws
-read_defined tokens name ws (Some (params, rest)) =
-    type_spec tokens name params false <$> type_in rest
+-- a spec by its name and type parameters, from the words after them
+abbrev pub read_declared_type : TokenRange → Span → List TypeParam → List Word → Option TypeSpec
+read_declared_type tokens name params [] = None
+read_declared_type tokens name params (w ∷ ws) = if same_mark w.mark m.Equal
+    then read_spec_of tokens name params true ws
+    else read_spec_of tokens name params false (w ∷ ws)
 
--- after the name
-abbrev pub read_named_type : TokenRange → Span → List Word → Option TypeSpec
-read_named_type tokens name [] = None
-read_named_type tokens name (w ∷ ws) = if same_mark w.mark m.Equal
-    then type_spec tokens name [] true <$> type_in ws
-    else read_defined tokens name (w ∷ ws) (read_leading_params (w ∷ ws))
+-- a spec by its name, from the words after it and the type parameters that they begin with
+abbrev pub read_named_type : TokenRange → Span → List Word
+    → Option (List TypeParam × List Word) → Option TypeSpec
+read_named_type tokens name ws None = read_declared_type tokens name [] ws
+read_named_type tokens name ws (Some (params, rest)) = read_declared_type tokens name params rest
 
 unfoldable pub read_type_spec : List Word → Option TypeSpec
 read_type_spec [] = None
 read_type_spec (name ∷ ws) = if same_mark name.mark m.Ident
-    then read_named_type (range_of name ws) name.span ws else None
+    then read_named_type (range_of name ws) name.span ws (read_leading_params ws) else None
 
 abbrev pub read_name : List Word → Option Span
 read_name [] = None

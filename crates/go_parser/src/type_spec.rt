@@ -56,19 +56,33 @@ fn spec_of(
     }
 }
 
+/// The spec with this name and these parameters, which the words follow: a type, or `=` and a type.
+fn declared_type(
+    alloc: Global,
+    tokens: TokenRange,
+    name: Span,
+    params: Seq<TypeParam>,
+    words: &Words<'_>,
+) -> Read<TypeSpec>
+    ensures { IfOk result (λ o. o ≡ spec.read_declared_type tokens name params words.now) }
+{
+    match words.split_first() {
+        None => Ok(None),
+        Some((first, rest)) if first.mark.is(Mark::Equal) => {
+            spec_of(alloc, tokens, name, params, true, &rest)
+        }
+        Some(_) => spec_of(alloc, tokens, name, params, false, words),
+    }
+}
+
 /// The spec that begins with this name, which the words follow.
 fn named(alloc: Global, tokens: TokenRange, name: Span, words: &Words<'_>) -> Read<TypeSpec>
-    ensures { IfOk result (λ o. o ≡ spec.read_named_type tokens name words.now) }
+    ensures { IfOk result (λ o. o ≡ spec.read_named_type tokens name words.now
+        (spec.read_leading_params words.now)) }
 {
-    let Some((first, rest)) = words.split_first() else {
-        return Ok(None);
-    };
-    if first.mark.is(Mark::Equal) {
-        return spec_of(alloc, tokens, name, Seq::new(alloc), true, &rest);
-    }
     match leading_params(alloc, words)? {
-        None => spec_of(alloc, tokens, name, Seq::new(alloc), false, words),
-        Some((params, rest)) => spec_of(alloc, tokens, name, params, false, &rest),
+        None => declared_type(alloc, tokens, name, Seq::new(alloc), words),
+        Some((params, rest)) => declared_type(alloc, tokens, name, params, &rest),
     }
 }
 

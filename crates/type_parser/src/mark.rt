@@ -42,38 +42,38 @@ fn keyword_mark(text: &[u8]) -> Mark
     }
 }
 
+/// What an operator of one byte is.
+#[tactic(auto, unfolding(go_ast::specs::Marks::operator_marks))]
+fn byte_mark(byte: u8) -> Mark
+    ensures { result ≡ spec.mark_among spec.operator_marks (byte ∷ []) }
+{
+    match byte {
+        b'*' => Mark::Star,
+        b'.' => Mark::Dot,
+        b',' => Mark::Comma,
+        b'|' => Mark::Bar,
+        b'~' => Mark::Tilde,
+        b'=' => Mark::Equal,
+        b'(' => Mark::OpenParen,
+        b')' => Mark::CloseParen,
+        b'[' => Mark::OpenBracket,
+        b']' => Mark::CloseBracket,
+        b'{' => Mark::OpenBrace,
+        b'}' => Mark::CloseBrace,
+        _ => Mark::Other,
+    }
+}
+
 #[tactic(auto, unfolding(go_ast::specs::Marks::operator_marks))]
 fn operator_mark(text: &[u8]) -> Mark
     ensures { result ≡ spec.mark_among spec.operator_marks text.now }
 {
-    if is(text, "*") {
-        Mark::Star
+    if let [byte] = text {
+        byte_mark(*byte)
     } else if is(text, "<-") {
         Mark::Arrow
-    } else if is(text, ".") {
-        Mark::Dot
-    } else if is(text, ",") {
-        Mark::Comma
-    } else if is(text, "|") {
-        Mark::Bar
-    } else if is(text, "~") {
-        Mark::Tilde
     } else if is(text, "...") {
         Mark::Ellipsis
-    } else if is(text, "=") {
-        Mark::Equal
-    } else if is(text, "(") {
-        Mark::OpenParen
-    } else if is(text, ")") {
-        Mark::CloseParen
-    } else if is(text, "[") {
-        Mark::OpenBracket
-    } else if is(text, "]") {
-        Mark::CloseBracket
-    } else if is(text, "{") {
-        Mark::OpenBrace
-    } else if is(text, "}") {
-        Mark::CloseBrace
     } else {
         Mark::Other
     }
