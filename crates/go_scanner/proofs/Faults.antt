@@ -14,8 +14,9 @@ use Rattle.go_ast.specs.Texts.{ends_unclosed, IsUnclosed, IsOpenString}
 use Rattle.go_ast.specs.Lexical.{is_raw, IsOpenComment}
 use Rattle.go_ast.specs.Reading.{IsStuckAt, ScanFault}
 use Rattle.go_scanner.specs.Shapes.{shape_at, item_shape, general_shape, fault_at}
-use Rattle.go_scanner.specs.TextBytes.{is_unclosed, opens_string, raw_length}
-use Rattle.go_scanner.proofs.Standing.Lists.{place_whole, list_all-take_prefix_len}
+use Rattle.go_literals.specs.Extents.{raw_length}
+use Rattle.go_scanner.specs.TextBytes.{is_unclosed, opens_string}
+use Rattle.go_literals.proofs.Lists.{place_whole, list_all-take_prefix_len}
 use Rattle.go_scanner.proofs.Standing.Generals.{general_none}
 use Rattle.go_scanner.proofs.Standing.Items.{past_mark, begins_split, no_mark-low}
 
