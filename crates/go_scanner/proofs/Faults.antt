@@ -7,7 +7,6 @@ use Rattle.std.proofs.lemmas.Bool.{and_parts, and_from, and_right, or_cases, or_
 use Rattle.std.proofs.lemmas.Bool.{or_parts, eqb-true, eq-eqb, ne_eqb, not-true, cases_Bool}
 use Rattle.std.proofs.lemmas.Bool.{both_ways, false≢true}
 use Rattle.std.proofs.lemmas.List.{take_all}
-use Rattle.go_ast.specs.declared.fault.Fault.TheVariants as faults
 use Rattle.go_ast.specs.Characters.{newline, backslash, single_quote, double_quote, back_quote}
 use Rattle.go_ast.specs.Texts.{Piece, plain, pair, print_pieces, is_piece, is_unquoted, ends_line}
 use Rattle.go_ast.specs.Texts.{ends_unclosed, IsUnclosed, IsOpenString}

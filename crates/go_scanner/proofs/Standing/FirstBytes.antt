@@ -1,15 +1,15 @@
 -- What the first bytes of a spelling tell of its kind.
 use Rattle.std.proofs.Common.{◌≡◌, ℕ, ◌≤◌, ◌<◌, Bool, true, false, ◌&&◌, ◌||◌, not, List, [], ◌∷◌}
-use Rattle.std.proofs.Common.{◌++◌, length, ◌==◌, nat_eq, nat_lt, nat_le, if◌then◌else◌, cond}
+use Rattle.std.proofs.Common.{◌++◌, length, ◌==◌, nat_eq, nat_lt, if◌then◌else◌, cond}
 use Rattle.std.proofs.Common.{encode_utf8, encode_utf8_all, sym, ap, ◌∙◌, subst, refl, inl, inr}
 use Rattle.std.proofs.Common.{arith, append_assoc, append-nil}
 use Rattle.std.specs.List.{list_all, starts_with}
 use Rattle.std.specs.Str.{bytes_eq, all_scalars, chars}
 use Rattle.std.specs.Int.{is_in_range}
-use Rattle.std.specs.Char.{is_ascii_digit, is_ascii_alphabetic, is_ascii_hexdigit}
+use Rattle.std.specs.Char.{is_ascii_digit, is_ascii_alphabetic}
 use Rattle.std.proofs.lemmas.Bool.{and_parts, and_from, and_left, or_cases, eqb-true, eqb-false}
-use Rattle.std.proofs.lemmas.Bool.{not-true, ne_eqb, leb-true, ltb-true, lt-ltb, agree_below}
-use Rattle.std.proofs.lemmas.Bool.{agree_below_at, both_ways, cases_lt, cases_Bool, false≢true}
+use Rattle.std.proofs.lemmas.Bool.{not-true, ne_eqb, ltb-true, lt-ltb}
+use Rattle.std.proofs.lemmas.Bool.{both_ways, cases_lt, cases_Bool, false≢true}
 use Rattle.std.proofs.lemmas.Bool.Decides.{Decides-eqb}
 use Rattle.std.proofs.lemmas.Slice.Eq.{bytes_eq-Decides, starts_is}
 use Rattle.std.proofs.lemmas.Str.{encode_same}
@@ -31,7 +31,7 @@ use Rattle.go_ast.specs.Lexical.{imaginary, rune, text, raw_text, semicolon, pri
 use Rattle.go_ast.specs.Lexical.{IsSpelling, is_number, operators, begins_number}
 use Rattle.go_scanner.specs.Shapes.{begins_word, begins_letter}
 use Rattle.go_scanner.specs.Classes.{is_ascii_letter}
-use Rattle.go_literals.proofs.Ascii.{below_range, hexadecimal_below, implies, by_table}
+use Rattle.go_literals.proofs.Ascii.{below_range, by_table}
 use Rattle.go_literals.proofs.Lists.{is_ascii, list_all-weaker}
 use Rattle.go_literals.proofs.Characters.{chars-ascii, chars-front, encoded}
 

@@ -1,6 +1,6 @@
 -- Floats, imaginaries and the kind of a number: the program and the definition give the same
 -- answers.
-use Rattle.std.proofs.Common.{◌≡◌, ◌≢◌, ◌==◌, ℕ, ◌+◌, ◌<◌, Bool, true, false, cond, not, ◌&&◌}
+use Rattle.std.proofs.Common.{◌≡◌, ◌==◌, ℕ, ◌+◌, ◌<◌, Bool, true, false, cond, not, ◌&&◌}
 use Rattle.std.proofs.Common.{◌||◌, List, [], ◌∷◌, ◌++◌, length, take, drop, get_or, nat_eq}
 use Rattle.std.proofs.Common.{nat_lt, nat_le, Some, None, codes, sym, ap, ◌∙◌, subst, refl, inl}
 use Rattle.std.proofs.Common.{inr, arith, length-append}

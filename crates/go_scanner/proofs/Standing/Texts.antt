@@ -19,7 +19,7 @@ use Rattle.go_literals.specs.Extents.{string_length, rune_length, raw_length}
 use Rattle.go_literals.proofs.Lists.{by_if, around, place_until, place_passes}
 use Rattle.go_literals.proofs.Lists.{list_all-take_prefix_len}
 use Rattle.go_literals.proofs.Characters.{after_ascii_utf8}
-use Rattle.go_scanner.proofs.Standing.FirstBytes.{texts, runes, raws, leads, lead_of}
+use Rattle.go_scanner.proofs.Standing.FirstBytes.{texts, runes, raws, leads}
 use Rattle.go_scanner.proofs.Standing.FirstBytes.{lead_of-ascii, lead_of-begins}
 use Rattle.go_scanner.proofs.Standing.Fronts.{SpelledAt, SpelledAs, extent_of-longest}
 use Rattle.go_literals.proofs.Quoted.{text_complete, text_sound, rune_complete, rune_sound}
