@@ -25,7 +25,7 @@ use Rattle.const_eval.specs.Machine.{values, whole}
 use Rattle.const_eval.specs.Progress.{number_of, run_value, fact_value, count_named, news_from}
 use Rattle.const_eval.specs.Progress.{news_of, natural, IsKnown, AreCounts, missing, IsClosed}
 use Rattle.const_eval.specs.Progress.{Attempts, Passes}
-use Rattle.const_eval.proofs.Options.{some_is}
+use Rattle.go_literals.proofs.Options.{some_is}
 use Rattle.const_eval.proofs.OperandLaws.{Names}
 use Rattle.const_eval.proofs.WorthLaws.{has_value, is_value}
 

@@ -1,13 +1,9 @@
 mod Arithmetic
 mod Characters
-mod Digits
 mod Finding
-mod LiteralLaws
 mod MachineSteps
+mod Numbers
 mod OneTree
 mod OperandLaws
-mod Options
-mod RuneLaws
 mod TreeLaws
-mod Values
 mod WorthLaws

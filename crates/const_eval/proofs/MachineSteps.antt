@@ -8,7 +8,8 @@ use Rattle.const_eval.specs.declared.operator.Operator.{Operator}
 use Rattle.const_eval.specs.declared.value.Value.{Value}
 use Rattle.const_eval.specs.declared.machine.Frame.{Frame}
 use Rattle.const_eval.specs.declared.machine.Frame.TheVariants as f
-use Rattle.const_eval.specs.Values.{◌|>◌, apply_unary, apply_binary}
+use Rattle.go_literals.specs.Options.{◌|>◌}
+use Rattle.const_eval.specs.Values.{apply_unary, apply_binary}
 use Rattle.const_eval.specs.Machine.{values, arrive, State, step, run, finish}
 
 reverse_last : (before : List (Frame Value)) (frame : Frame Value)

@@ -5,7 +5,7 @@ use Rattle.std.specs.Prelude.{Option, Some}
 use Rattle.const_eval.specs.Expressions.{Expression, operand, parenthesized, unary, binary}
 use Rattle.const_eval.specs.Expressions.{IsExpression, a_sum, print}
 use Rattle.const_eval.specs.Machine.{Meaning, whole}
-use Rattle.const_eval.proofs.Options.{some_is}
+use Rattle.go_literals.proofs.Options.{some_is}
 use Rattle.const_eval.proofs.TreeLaws.{fold, complete}
 
 abbrev trees : Meaning Expression

@@ -12,11 +12,12 @@ use Rattle.go_ast.specs.Numbers.{is_integer, is_digit_of}
 use Rattle.const_eval.specs.declared.value.Value.{Value}
 use Rattle.const_eval.specs.Operators.{within}
 use Rattle.const_eval.specs.Expressions.{begins_literal, IsOperandWorth, an_integer, a_rune, a_name}
-use Rattle.const_eval.specs.Reading.{read_integer, read_rune, read_literal, as_number, one_level}
+use Rattle.go_literals.specs.Reading.{read_integer, read_rune}
+use Rattle.const_eval.specs.Reading.{read_literal, as_number, one_level}
 use Rattle.const_eval.specs.Reading.{operand_value}
-use Rattle.const_eval.proofs.Options.{bind_some, some_is}
-use Rattle.const_eval.proofs.LiteralLaws.{both, integer_complete, integer_sound}
-use Rattle.const_eval.proofs.RuneLaws.{rune_complete, rune_sound}
+use Rattle.go_literals.proofs.Options.{bind_some, some_is}
+use Rattle.go_literals.proofs.IntegerLaws.{both, integer_complete, integer_sound}
+use Rattle.go_literals.proofs.RuneLaws.{rune_complete, rune_sound}
 
 abbrev pub Names : (List ℕ → Option ℤ) → List ℕ → ℤ → Type 0
 Names names text number = names text ≡ Some number

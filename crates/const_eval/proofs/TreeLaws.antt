@@ -12,14 +12,14 @@ use Rattle.const_eval.specs.declared.lexeme.Lexeme.{Lexeme}
 use Rattle.const_eval.specs.declared.lexeme.Lexeme.TheVariants as l
 use Rattle.const_eval.specs.Lexemes.{lexeme_of, lexeme_among, lexemes}
 use Rattle.const_eval.specs.Operators.{print_operator, is_unary, is_multiplying}
-use Rattle.const_eval.specs.Values.{◌|>◌}
+use Rattle.go_literals.specs.Options.{◌|>◌}
 use Rattle.const_eval.specs.Expressions.{Expression, operand, parenthesized, unary, binary, print}
 use Rattle.const_eval.specs.Expressions.{Part, an_operand, a_product, a_sum, IsExpression}
 use Rattle.const_eval.specs.Expressions.{one_token, in_parentheses, after_unary, one_operand}
 use Rattle.const_eval.specs.Expressions.{multiplied, one_product, added}
 use Rattle.const_eval.specs.Machine.{Meaning, State, having, arrive, settle, close, after_sum}
 use Rattle.const_eval.specs.Machine.{go_on, alone, finish, begin, step, run, whole}
-use Rattle.const_eval.proofs.Options.{bind_some, some_is}
+use Rattle.go_literals.proofs.Options.{bind_some, some_is}
 
 -- ---- the texts of brackets and operators
 

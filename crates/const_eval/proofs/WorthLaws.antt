@@ -4,12 +4,13 @@ use Rattle.std.proofs.Common.{arith, ℤ, lit≤}
 use Rattle.std.specs.Prelude.{Option, Some, None, if◌then◌else◌, nat_lt, max}
 use Rattle.const_eval.specs.declared.value.Value.{Value}
 use Rattle.const_eval.specs.Operators.{unary_value, binary_value}
-use Rattle.const_eval.specs.Values.{◌|>◌, above, apply_unary, apply_binary, parenthesize}
+use Rattle.go_literals.specs.Options.{◌|>◌}
+use Rattle.const_eval.specs.Values.{above, apply_unary, apply_binary, parenthesize}
 use Rattle.const_eval.specs.Machine.{values, whole}
 use Rattle.const_eval.specs.Reading.{operand_value}
 use Rattle.const_eval.specs.Expressions.{Expression, operand, parenthesized, unary, binary, levels}
 use Rattle.const_eval.specs.Expressions.{IsWorth, HasValue}
-use Rattle.const_eval.proofs.Options.{bind_some, some_is}
+use Rattle.go_literals.proofs.Options.{bind_some, some_is}
 use Rattle.const_eval.proofs.TreeLaws.{fold, complete, sound}
 use Rattle.const_eval.proofs.OperandLaws.{operand_complete, operand_sound, Names}
 

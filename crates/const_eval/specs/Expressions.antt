@@ -11,7 +11,7 @@ use Rattle.go_ast.specs.Texts.{Element, is_element}
 use Rattle.const_eval.specs.declared.operator.Operator.{Operator}
 use Rattle.const_eval.specs.declared.lexeme.Lexeme.TheVariants as l
 use Rattle.const_eval.specs.Lexemes.{lexeme_of}
-use Rattle.const_eval.specs.Literals.{integer_value, print_rune, element_value}
+use Rattle.go_literals.specs.Literals.{integer_value, print_rune, element_value}
 use Rattle.const_eval.specs.Operators.{print_operator, is_unary, is_multiplying, within}
 use Rattle.const_eval.specs.Operators.{unary_value, binary_value}
 

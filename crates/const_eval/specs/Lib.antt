@@ -3,7 +3,6 @@ pub mod Constants
 pub mod Expressions
 pub mod Lengths
 pub mod Lexemes
-pub mod Literals
 pub mod Operators
 -- Cited by private clauses and proofs.
 pub mod Machine

@@ -11,7 +11,8 @@ use Rattle.const_eval.specs.declared.lexeme.Lexeme.{Lexeme}
 use Rattle.const_eval.specs.declared.lexeme.Lexeme.TheVariants as l
 use Rattle.const_eval.specs.Lexemes.{lexeme_of}
 use Rattle.const_eval.specs.Operators.{is_unary, is_multiplying}
-use Rattle.const_eval.specs.Values.{◌|>◌, parenthesize, apply_unary, apply_binary}
+use Rattle.go_literals.specs.Options.{◌|>◌}
+use Rattle.const_eval.specs.Values.{parenthesize, apply_unary, apply_binary}
 use Rattle.const_eval.specs.declared.value.Value.{Value}
 
 -- what brackets and operators give

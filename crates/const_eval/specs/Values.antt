@@ -1,13 +1,9 @@
 -- Cited by private clauses and proofs. A value with its levels, as the evaluation keeps them.
 use Rattle.std.specs.Prelude.{ℕ, suc, max, ℤ, if◌then◌else◌, nat_lt, Option, Some, None}
+use Rattle.go_literals.specs.Options.{◌|>◌}
 use Rattle.const_eval.specs.declared.operator.Operator.{Operator}
 use Rattle.const_eval.specs.declared.value.Value.{Value}
 use Rattle.const_eval.specs.Operators.{unary_value, binary_value}
-
-infixl 10 ◌|>◌
-abbrev pub ◌|>◌ : {A B : Type 0} → Option A → (A → Option B) → Option B
-None |> f = None
-(Some x) |> f = f x
 
 -- a number one level above these
 abbrev pub above : ℕ → ℤ → Option Value

@@ -4,7 +4,7 @@ ghost use Rattle.std.specs.Prelude.{◌≡◌, [], ◌∷◌, reverse, IfOk, OnO
 ghost use Rattle.const_eval.specs.Machine.{values, arrive, settle, close, go_on, begin, step};
 ghost use Rattle.const_eval.specs.Machine.{finish, having, left_of, state_of, AreWithin, Steps};
 ghost use Rattle.const_eval.specs.Lexemes as lexemes;
-ghost use Rattle.const_eval.specs.Values.{◌|>◌};
+ghost use Rattle.go_literals.specs.Options.{◌|>◌};
 ghost use Rattle.const_eval.specs.Names.{names_of};
 ghost use Rattle.const_eval.specs.Reading.{operand_value};
 

@@ -1,5 +1,5 @@
 -- The end of a general comment: what the program finds, what a search finds, and what no end means.
-use Rattle.std.proofs.Common.{◌≡◌, ◌≢◌, ℕ, zero, suc, ◌+◌, ◌<◌, ◌≤◌, Bool, true, false, ◌&&◌, List}
+use Rattle.std.proofs.Common.{◌≡◌, ℕ, zero, suc, ◌+◌, ◌<◌, ◌≤◌, Bool, true, false, ◌&&◌, List}
 use Rattle.std.proofs.Common.{[], ◌∷◌, length, get_or, Option, Some, None, option_map, nat_eq}
 use Rattle.std.proofs.Common.{codes, refl, sym, ◌∙◌, ap, arith, inl, inr}
 use Rattle.std.specs.List.{starts_with}

@@ -20,7 +20,8 @@ use Rattle.go_scanner.specs.Shapes.{item_shape, comment_length, general_shape, n
 use Rattle.go_scanner.specs.FrontWords.{word_at}
 use Rattle.go_scanner.specs.Shapes.{begins_word, word_shape, text_shape, rune_shape}
 use Rattle.go_scanner.specs.Shapes.{raw_shape, operator_shape, marked_shape, spelling_shape}
-use Rattle.go_scanner.proofs.Standing.FirstBytes.{implies, by_table, letter_below, digit_below}
+use Rattle.go_literals.proofs.Ascii.{implies, by_table}
+use Rattle.go_scanner.proofs.Standing.FirstBytes.{letter_below, digit_below}
 use Rattle.go_scanner.proofs.Standing.FirstBytes.{begins_word-ascii, digit_begins, operator_mark}
 use Rattle.go_scanner.proofs.Standing.Items.{spelling_item}
 use Rattle.go_scanner.proofs.Standing.Spellings.{shape-number, shape-name, shape-marked}

@@ -7,15 +7,15 @@ use Rattle.std.proofs.lemmas.Bool.{and_parts, and_from, and_right, or_cases, or_
 use Rattle.std.proofs.lemmas.Bool.{or_parts, eqb-true, eq-eqb, ne_eqb, not-true, cases_Bool}
 use Rattle.std.proofs.lemmas.Bool.{both_ways, false≢true}
 use Rattle.std.proofs.lemmas.List.{take_all}
-use Rattle.go_ast.specs.declared.fault.Fault.TheVariants as faults
 use Rattle.go_ast.specs.Characters.{newline, backslash, single_quote, double_quote, back_quote}
 use Rattle.go_ast.specs.Texts.{Piece, plain, pair, print_pieces, is_piece, is_unquoted, ends_line}
 use Rattle.go_ast.specs.Texts.{ends_unclosed, IsUnclosed, IsOpenString}
 use Rattle.go_ast.specs.Lexical.{is_raw, IsOpenComment}
 use Rattle.go_ast.specs.Reading.{IsStuckAt, ScanFault}
 use Rattle.go_scanner.specs.Shapes.{shape_at, item_shape, general_shape, fault_at}
-use Rattle.go_scanner.specs.TextBytes.{is_unclosed, opens_string, raw_length}
-use Rattle.go_scanner.proofs.Standing.Lists.{place_whole, list_all-take_prefix_len}
+use Rattle.go_literals.specs.Extents.{raw_length}
+use Rattle.go_scanner.specs.TextBytes.{is_unclosed, opens_string}
+use Rattle.go_literals.proofs.Lists.{place_whole, list_all-take_prefix_len}
 use Rattle.go_scanner.proofs.Standing.Generals.{general_none}
 use Rattle.go_scanner.proofs.Standing.Items.{past_mark, begins_split, no_mark-low}
 

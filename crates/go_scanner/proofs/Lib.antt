@@ -6,15 +6,12 @@ mod ItemShapes
 mod Marks
 mod Newlines
 mod OneReading
-mod Places
 mod Positions
 mod Progress
 mod Refusals
 mod Runs
 mod Spans
 mod Standing
-mod TextScan
 mod Utf8
-mod Values
 mod Words
 pub mod ScanLaws

@@ -7,5 +7,5 @@ pub use Rattle.go_scanner.proofs.Standing.Boundaries.{utf8_after}
 pub use Rattle.go_scanner.proofs.Standing.FirstBytes.{begins_word-identifier}
 pub use Rattle.go_scanner.proofs.Standing.Fronts.{SpelledAt-IsSpelled, whole_run}
 pub use Rattle.go_scanner.proofs.Standing.Items.{length-print_item-pos}
-pub use Rattle.go_scanner.proofs.Standing.Lists.{same_fronts}
+pub use Rattle.go_literals.proofs.Lists.{same_fronts}
 pub use Rattle.go_scanner.proofs.Standing.Names.{front_split, name_found}

@@ -17,7 +17,7 @@ use Rattle.go_scanner.specs.FrontWords.{word_at}
 use Rattle.go_scanner.specs.Classes.{is_ascii_letter, is_word_byte}
 use Rattle.go_scanner.proofs.Standing.FirstBytes.{letter_below, digit_below}
 use Rattle.go_scanner.proofs.Standing.FirstBytes.{is_letter_or_digit-ascii}
-use Rattle.go_scanner.proofs.Standing.Characters.{chars-ascii, after_ascii_utf8}
+use Rattle.go_literals.proofs.Characters.{chars-ascii, after_ascii_utf8}
 
 -- the name by the characters
 more_of : (bytes : List ℕ) (c : ℕ) (cs : List ℕ) → chars bytes ≡ c ∷ cs

@@ -20,8 +20,8 @@ use Rattle.go_ast.specs.Lexical.{spelled, print_spelling, operators, number_run,
 use Rattle.go_ast.specs.Reading.{kind_of, takes_semicolon, has_newline}
 use Rattle.go_scanner.specs.FrontWords.{word_at}
 use Rattle.go_scanner.specs.NumberBytes.{number_kind}
-use Rattle.go_scanner.specs.TextBytes.{text_length, rune_length, raw_length, comment_end}
-use Rattle.go_scanner.specs.TextBytes.{opens_string}
+use Rattle.go_literals.specs.Extents.{string_length, rune_length, raw_length}
+use Rattle.go_scanner.specs.TextBytes.{comment_end, opens_string}
 use Rattle.go_scanner.specs.declared.shape.Shape.{Shape}
 use Rattle.go_scanner.specs.declared.shape.Shape.TheVariants.{Blank, LineEnd, Comment, General}
 use Rattle.go_scanner.specs.declared.shape.Shape.TheVariants.{Token}
@@ -76,7 +76,7 @@ text_of_length n = Token Text true (n + 1)
 
 -- the text, the rune or the raw text whose opening mark stands before the bytes
 unfoldable pub text_shape : List ℕ → Option Shape
-text_shape bytes = option_map text_of_length (text_length double_quote 0 bytes)
+text_shape bytes = option_map text_of_length (string_length double_quote 0 bytes)
 
 unfoldable pub rune_shape : List ℕ → Option Shape
 rune_shape bytes = let n = rune_length bytes in

@@ -4,8 +4,8 @@ ghost use Rattle.std.specs.Prelude.{◌≡◌, false};
 ghost use Rattle.go_scanner.specs.Shapes.{fault_at};
 ghost use Rattle.go_scanner.specs.TextBytes.{is_unclosed, opens_string};
 
-use crate::text::raw_length;
 use go_ast::Fault;
+use go_literals::raw_length;
 
 /// Whether the line ends before the closing quote of the literal whose opening quote stands before
 /// these bytes. A `\` takes the next byte with it, unless that is a newline.

@@ -1,6 +1,6 @@
 -- What follows an item of a text of UTF-8 is UTF-8.
 use Rattle.std.proofs.Common.{◌≡◌, ◌==◌, ℕ, ◌<◌, Bool, true, ◌&&◌, ◌||◌, List, [], ◌∷◌, ◌++◌}
-use Rattle.std.proofs.Common.{IsUtf8, MatchBool, sym, ap, ◌∙◌, subst, refl, inl, inr, arith}
+use Rattle.std.proofs.Common.{IsUtf8, sym, ap, ◌∙◌, subst, refl, inl, inr, arith}
 use Rattle.std.proofs.Common.{append_assoc, append-nil}
 use Rattle.std.specs.List.{list_all}
 use Rattle.std.specs.Char.{is_ascii_digit, is_ascii_alphanumeric}
@@ -18,9 +18,10 @@ use Rattle.go_ast.specs.Lexical.{byte_order_mark, line_comment, general_comment,
 use Rattle.go_ast.specs.Lexical.{print_item, print_spelling, Stands, IsSpelled, IsWholeRun}
 use Rattle.go_ast.specs.Lexical.{IsLongest, EndsComment, is_number, is_run_byte, goes_on}
 use Rattle.go_ast.specs.Lexical.{run_after, number_run, is_hexadecimal, begins_number}
-use Rattle.go_scanner.proofs.Standing.Lists.{is_ascii, ascii_utf8}
-use Rattle.go_scanner.proofs.Standing.Characters.{rest_utf8, after_ascii_utf8, before_ascii_utf8}
-use Rattle.go_scanner.proofs.Standing.FirstBytes.{below_range, digit_below, keyword_word}
+use Rattle.go_literals.proofs.Lists.{is_ascii, ascii_utf8}
+use Rattle.go_literals.proofs.Characters.{rest_utf8, after_ascii_utf8, before_ascii_utf8}
+use Rattle.go_literals.proofs.Ascii.{below_range}
+use Rattle.go_scanner.proofs.Standing.FirstBytes.{digit_below, keyword_word}
 use Rattle.go_scanner.proofs.Standing.FirstBytes.{ascii_word-ascii, operator_mark, number_first}
 use Rattle.go_scanner.proofs.Standing.FirstBytes.{mark_encoded}
 

@@ -16,8 +16,8 @@ use Rattle.std.proofs.lemmas.List.Sums.{AllPass-from_list_all, list_all-from_All
 use Rattle.go_ast.specs.Characters.{newline, carriage_return}
 use Rattle.go_ast.specs.Lexical.{IsLineComment, EndsComment}
 use Rattle.go_scanner.specs.Shapes.{comment_length}
-use Rattle.go_scanner.proofs.Standing.Lists.{split_at, prefix_len_past, prefix_len_until}
-use Rattle.go_scanner.proofs.Standing.Lists.{prefix_len_whole, list_all-take_prefix_len}
+use Rattle.go_literals.proofs.Lists.{split_at, prefix_len_past, prefix_len_until}
+use Rattle.go_literals.proofs.Lists.{prefix_len_whole, list_all-take_prefix_len}
 
 abbrev slash : ℕ
 slash = 47

@@ -22,8 +22,9 @@ use Rattle.go_ast.specs.Numbers.{exponent, print_exponent, is_exponent_mark, is_
 use Rattle.go_scanner.specs.NumberBytes.{are_separated, spells_digits, spells_after_zero}
 use Rattle.go_scanner.specs.NumberBytes.{spells_integer, is_point, point_place, spells_mantissa}
 use Rattle.go_scanner.specs.NumberBytes.{without_sign, spells_exponent}
-use Rattle.go_scanner.proofs.Standing.Lists.{by_if, around, place_until, place_whole, place_passes}
-use Rattle.go_scanner.proofs.Standing.FirstBytes.{by_table, digit_below}
+use Rattle.go_literals.proofs.Lists.{by_if, around, place_until, place_whole, place_passes}
+use Rattle.go_literals.proofs.Ascii.{by_table}
+use Rattle.go_scanner.proofs.Standing.FirstBytes.{digit_below}
 
 -- the bytes as digits, after a "_" or not
 record Tail (base : ℕ → Bool) (bytes : List ℕ) : Type 0 where

@@ -1,15 +1,15 @@
 -- What the first bytes of a spelling tell of its kind.
 use Rattle.std.proofs.Common.{◌≡◌, ℕ, ◌≤◌, ◌<◌, Bool, true, false, ◌&&◌, ◌||◌, not, List, [], ◌∷◌}
-use Rattle.std.proofs.Common.{◌++◌, length, ◌==◌, nat_eq, nat_lt, nat_le, if◌then◌else◌, cond}
+use Rattle.std.proofs.Common.{◌++◌, length, ◌==◌, nat_eq, nat_lt, if◌then◌else◌, cond}
 use Rattle.std.proofs.Common.{encode_utf8, encode_utf8_all, sym, ap, ◌∙◌, subst, refl, inl, inr}
 use Rattle.std.proofs.Common.{arith, append_assoc, append-nil}
 use Rattle.std.specs.List.{list_all, starts_with}
 use Rattle.std.specs.Str.{bytes_eq, all_scalars, chars}
 use Rattle.std.specs.Int.{is_in_range}
-use Rattle.std.specs.Char.{is_ascii_digit, is_ascii_alphabetic, is_ascii_hexdigit}
+use Rattle.std.specs.Char.{is_ascii_digit, is_ascii_alphabetic}
 use Rattle.std.proofs.lemmas.Bool.{and_parts, and_from, and_left, or_cases, eqb-true, eqb-false}
-use Rattle.std.proofs.lemmas.Bool.{not-true, ne_eqb, leb-true, ltb-true, lt-ltb, agree_below}
-use Rattle.std.proofs.lemmas.Bool.{agree_below_at, both_ways, cases_lt, cases_Bool, false≢true}
+use Rattle.std.proofs.lemmas.Bool.{not-true, ne_eqb, ltb-true, lt-ltb}
+use Rattle.std.proofs.lemmas.Bool.{both_ways, cases_lt, cases_Bool, false≢true}
 use Rattle.std.proofs.lemmas.Bool.Decides.{Decides-eqb}
 use Rattle.std.proofs.lemmas.Slice.Eq.{bytes_eq-Decides, starts_is}
 use Rattle.std.proofs.lemmas.Str.{encode_same}
@@ -31,8 +31,9 @@ use Rattle.go_ast.specs.Lexical.{imaginary, rune, text, raw_text, semicolon, pri
 use Rattle.go_ast.specs.Lexical.{IsSpelling, is_number, operators, begins_number}
 use Rattle.go_scanner.specs.Shapes.{begins_word, begins_letter}
 use Rattle.go_scanner.specs.Classes.{is_ascii_letter}
-use Rattle.go_scanner.proofs.Standing.Lists.{is_ascii, list_all-weaker}
-use Rattle.go_scanner.proofs.Standing.Characters.{chars-ascii, chars-front, encoded}
+use Rattle.go_literals.proofs.Ascii.{below_range, by_table}
+use Rattle.go_literals.proofs.Lists.{is_ascii, list_all-weaker}
+use Rattle.go_literals.proofs.Characters.{chars-ascii, chars-front, encoded}
 
 -- what holds of each word of a table holds of a word that is among them
 pub test-is_among : (test : List ℕ → Bool) (table : List (List ℕ)) (word : List ℕ)
@@ -45,9 +46,6 @@ test-is_among test (x ∷ xs) word all h =
       | inr e ↦ test-is_among test xs word parts.1 e
     ]
 
-pub below_range : (low high b : ℕ) → is_in_range low high b ≡ true → b ≤ high
-below_range low high b h = leb-true b high (and_parts (nat_le low b) (nat_le b high) h).1
-
 pub digit_below : (b : ℕ) → is_ascii_digit b ≡ true → b < 128
 digit_below b h = omega (arith, below_range 48 57 b h)
 
@@ -57,30 +55,11 @@ alphabetic_below b h = elim (or_cases (is_in_range 65 90 b) (is_in_range 97 122 
   | inr e ↦ omega (arith, below_range 97 122 b e)
 ]
 
-pub hexadecimal_below : (b : ℕ) → is_ascii_hexdigit b ≡ true → b < 128
-hexadecimal_below b h =
-    elim (or_cases (is_in_range 48 57 b || is_in_range 65 70 b) (is_in_range 97 102 b) h) [
-      | inl e ↦ elim (or_cases (is_in_range 48 57 b) (is_in_range 65 70 b) e) [
-        | inl f ↦ omega (arith, below_range 48 57 b f)
-        | inr f ↦ omega (arith, below_range 65 70 b f)
-      ]
-      | inr e ↦ omega (arith, below_range 97 102 b e)
-    ]
-
 pub letter_below : (b : ℕ) → is_ascii_letter b ≡ true → b < 128
 letter_below b h = elim (or_cases (b == underscore) (is_ascii_alphabetic b) h) [
   | inl e ↦ omega (arith, eqb-true b underscore e)
   | inr e ↦ alphabetic_below b e
 ]
-
--- what follows from a test at each byte below 128, found by computing it there
-abbrev pub implies : (ℕ → Bool) → (ℕ → Bool) → ℕ → Bool
-implies f g b = cond (f b) (g b) true
-
-pub by_table : (f g : ℕ → Bool) → agree_below (implies f g) (λ _. true) 128 ≡ true → (b : ℕ)
-    → b < 128 → f b ≡ true → g b ≡ true
-by_table f g table b low h = let e : implies f g b ≡ true =
-    agree_below_at (implies f g) (λ _. true) 128 b table low in rw h at e
 
 -- the letters and digits of ASCII
 pub is_letter-ascii : (b : ℕ) → b < 128 → is_letter b ≡ is_ascii_letter b

@@ -1,6 +1,6 @@
 -- Floats, imaginaries and the kind of a number: the program and the definition give the same
 -- answers.
-use Rattle.std.proofs.Common.{◌≡◌, ◌≢◌, ◌==◌, ℕ, ◌+◌, ◌<◌, Bool, true, false, cond, not, ◌&&◌}
+use Rattle.std.proofs.Common.{◌≡◌, ◌==◌, ℕ, ◌+◌, ◌<◌, Bool, true, false, cond, not, ◌&&◌}
 use Rattle.std.proofs.Common.{◌||◌, List, [], ◌∷◌, ◌++◌, length, take, drop, get_or, nat_eq}
 use Rattle.std.proofs.Common.{nat_lt, nat_le, Some, None, codes, sym, ap, ◌∙◌, subst, refl, inl}
 use Rattle.std.proofs.Common.{inr, arith, length-append}
@@ -33,10 +33,10 @@ use Rattle.go_scanner.specs.NumberBytes.{spells_digits, spells_integer, is_point
 use Rattle.go_scanner.specs.NumberBytes.{spells_exponent, exponent_place, spells_decimal_float}
 use Rattle.go_scanner.specs.NumberBytes.{spells_hexadecimal_float, spells_float, spells_part}
 use Rattle.go_scanner.specs.NumberBytes.{is_letter_i, number_kind}
-use Rattle.go_scanner.proofs.Standing.Lists.{by_if, around, place_until, place_whole, place_passes}
-use Rattle.go_scanner.proofs.Standing.Lists.{split_at}
-use Rattle.go_scanner.proofs.Standing.FirstBytes.{implies, by_table, digit_below}
-use Rattle.go_scanner.proofs.Standing.FirstBytes.{hexadecimal_below}
+use Rattle.go_literals.proofs.Lists.{by_if, around, place_until, place_whole, place_passes}
+use Rattle.go_literals.proofs.Lists.{split_at}
+use Rattle.go_literals.proofs.Ascii.{implies, by_table, hexadecimal_below}
+use Rattle.go_scanner.proofs.Standing.FirstBytes.{digit_below}
 use Rattle.go_scanner.proofs.Standing.Digits.{digits_sound, digits_complete, print_digits-all}
 use Rattle.go_scanner.proofs.Standing.Digits.{all_of_digits, integer_sound, integer_complete}
 use Rattle.go_scanner.proofs.Standing.Digits.{mantissa_sound, mantissa_complete, exponent_sound}

@@ -18,7 +18,7 @@ use Rattle.go_scanner.specs.declared.shape.Shape.{Shape}
 use Rattle.go_scanner.specs.declared.shape.Shape.TheVariants.{Blank, Comment, General}
 use Rattle.go_scanner.specs.Shapes.{shape_of, item_shape, shape_at, spelling_shape, general_shape}
 use Rattle.go_scanner.specs.Shapes.{length_of, comment_length}
-use Rattle.go_scanner.proofs.Standing.Lists.{by_if, same_rests}
+use Rattle.go_literals.proofs.Lists.{by_if, same_rests}
 use Rattle.go_scanner.proofs.Standing.FirstBytes.{first_byte}
 use Rattle.go_scanner.proofs.Standing.Fronts.{SpelledAt, SpelledAt-IsSpelled, IsSpelled-SpelledAt}
 use Rattle.go_scanner.proofs.Standing.Comments.{comment_found, comment_stands}

@@ -17,11 +17,11 @@ use Rattle.go_ast.specs.Lexical.{print_spelling, IsSpelling, IsLongest, begins_n
 use Rattle.go_scanner.specs.FrontWords.{word_at}
 use Rattle.go_scanner.specs.Shapes.{shape_of, word_shape, begins_word, begins_letter}
 use Rattle.go_scanner.specs.Classes.{is_ascii_letter}
-use Rattle.go_scanner.proofs.Standing.Lists.{same_fronts, split_at, take_while-past}
-use Rattle.go_scanner.proofs.Standing.Lists.{list_all-take_prefix_len, encode_utf8_all-ascii}
-use Rattle.go_scanner.proofs.Standing.Lists.{ascii_scalars, list_all-weaker}
-use Rattle.go_scanner.proofs.Standing.Characters.{chars-front}
-use Rattle.go_scanner.proofs.Standing.FirstBytes.{words, leads, lead_of, lead_of-begins}
+use Rattle.go_literals.proofs.Lists.{same_fronts, split_at, take_while-past}
+use Rattle.go_literals.proofs.Lists.{list_all-take_prefix_len, encode_utf8_all-ascii}
+use Rattle.go_literals.proofs.Lists.{ascii_scalars, list_all-weaker}
+use Rattle.go_literals.proofs.Characters.{chars-front}
+use Rattle.go_scanner.proofs.Standing.FirstBytes.{words, leads, lead_of-begins}
 use Rattle.go_scanner.proofs.Standing.FirstBytes.{words_lead, is_ascii_word, keyword_word}
 use Rattle.go_scanner.proofs.Standing.FirstBytes.{ascii_word-ascii, letter_below, is_letter-ascii}
 use Rattle.go_scanner.proofs.Standing.Fronts.{SpelledAt, SpelledAs, longest, extent_of-longest}

@@ -10,7 +10,7 @@ use Rattle.go_ast.specs.Lexical.{rune, text, raw_text, semicolon, spelled, print
 use Rattle.go_ast.specs.Lexical.{IsSpelling, IsLongest, operators, begins_number}
 use Rattle.go_scanner.specs.declared.shape.Shape.{Shape}
 use Rattle.go_scanner.specs.Shapes.{shape_of, mark_shape, operator_shape}
-use Rattle.go_scanner.proofs.Standing.Lists.{by_if, same_fronts, front_within, split_at}
+use Rattle.go_literals.proofs.Lists.{by_if, same_fronts, front_within, split_at}
 use Rattle.go_scanner.proofs.Standing.FirstBytes.{marks, leads, lead_of, lead_of-begins}
 use Rattle.go_scanner.proofs.Standing.FirstBytes.{operator_mark}
 use Rattle.go_scanner.proofs.Standing.Fronts.{SpelledAt, SpelledAs, SpelledAs-Some, longest}

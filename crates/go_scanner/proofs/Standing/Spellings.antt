@@ -13,7 +13,7 @@ use Rattle.go_scanner.specs.FrontWords.{word_at}
 use Rattle.go_scanner.specs.Shapes.{shape_of, begins_word, word_shape, number_shape}
 use Rattle.go_scanner.specs.Shapes.{text_shape, rune_shape, raw_shape, operator_shape}
 use Rattle.go_scanner.specs.Shapes.{marked_shape, spelling_shape}
-use Rattle.go_scanner.proofs.Standing.Lists.{by_if}
+use Rattle.go_literals.proofs.Lists.{by_if}
 use Rattle.go_scanner.proofs.Standing.FirstBytes.{marks, semicolons, leads, lead_of, lead_of-ascii}
 use Rattle.go_scanner.proofs.Standing.FirstBytes.{lead_of-begins}
 use Rattle.go_scanner.proofs.Standing.Fronts.{SpelledAt, SpelledAs, SpelledAs-Some}

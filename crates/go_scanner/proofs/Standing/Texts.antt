@@ -15,15 +15,15 @@ use Rattle.go_ast.specs.Lexical.{print_spelling, IsSpelling, is_raw, begins_numb
 use Rattle.go_scanner.specs.declared.shape.Shape.{Shape}
 use Rattle.go_scanner.specs.declared.shape.Shape.TheVariants.{Token}
 use Rattle.go_scanner.specs.Shapes.{shape_of, text_of_length, text_shape, rune_shape, raw_shape}
-use Rattle.go_scanner.specs.TextBytes.{text_length, rune_length, raw_length}
-use Rattle.go_scanner.proofs.Standing.Lists.{by_if, around, place_until, place_passes}
-use Rattle.go_scanner.proofs.Standing.Lists.{list_all-take_prefix_len}
-use Rattle.go_scanner.proofs.Standing.Characters.{after_ascii_utf8}
-use Rattle.go_scanner.proofs.Standing.FirstBytes.{texts, runes, raws, leads, lead_of}
+use Rattle.go_literals.specs.Extents.{string_length, rune_length, raw_length}
+use Rattle.go_literals.proofs.Lists.{by_if, around, place_until, place_passes}
+use Rattle.go_literals.proofs.Lists.{list_all-take_prefix_len}
+use Rattle.go_literals.proofs.Characters.{after_ascii_utf8}
+use Rattle.go_scanner.proofs.Standing.FirstBytes.{texts, runes, raws, leads}
 use Rattle.go_scanner.proofs.Standing.FirstBytes.{lead_of-ascii, lead_of-begins}
 use Rattle.go_scanner.proofs.Standing.Fronts.{SpelledAt, SpelledAs, extent_of-longest}
-use Rattle.go_scanner.proofs.Standing.Quoted.{text_complete, text_sound, rune_complete, rune_sound}
-use Rattle.go_scanner.proofs.Standing.Quoted.{element_some}
+use Rattle.go_literals.proofs.Quoted.{text_complete, text_sound, rune_complete, rune_sound}
+use Rattle.go_literals.proofs.Quoted.{element_some}
 
 -- what stands between two marks, and after them
 between : (mark : ℕ) (rest inner after : List ℕ)
@@ -60,7 +60,7 @@ quoted_of (rune element) lead h = cc
 quoted_of (raw_text content) lead h = cc
 quoted_of semicolon lead h = cc
 
-text_shape-length : (rest : List ℕ) (n : ℕ) → text_length double_quote 0 rest ≡ Some n
+text_shape-length : (rest : List ℕ) (n : ℕ) → string_length double_quote 0 rest ≡ Some n
     → text_shape rest ≡ Some (Token Text true (n + 1))
 unfolding text_shape
 text_shape-length rest n h = rw h refl
@@ -71,9 +71,9 @@ length_cases None shape h = cc
 length_cases (Some n) shape h = (n, refl, cc)
 
 text_shape-cases : (rest : List ℕ) (shape : Shape) → text_shape rest ≡ Some shape
-    → (n : ℕ) × (text_length double_quote 0 rest ≡ Some n) × (Token Text true (n + 1) ≡ shape)
+    → (n : ℕ) × (string_length double_quote 0 rest ≡ Some n) × (Token Text true (n + 1) ≡ shape)
 unfolding text_shape
-text_shape-cases rest shape h = length_cases (text_length double_quote 0 rest) shape h
+text_shape-cases rest shape h = length_cases (string_length double_quote 0 rest) shape h
 
 module _ (rest : List ℕ) (number : begins_number (double_quote ∷ rest) ≡ false) where
   begins_text : (spelling : Spelling) → IsSpelling spelling
@@ -85,13 +85,13 @@ module _ (rest : List ℕ) (number : begins_number (double_quote ∷ rest) ≡ f
   -- how long a text at the front is
   text_long : (spelling : Spelling) (after : List ℕ) → IsSpelling spelling
       → double_quote ∷ rest ≡ print_spelling spelling ++ after
-      → text_length double_quote 0 rest ≡ Some (length (print_spelling spelling) - 1)
+      → string_length double_quote 0 rest ≡ Some (length (print_spelling spelling) - 1)
   text_long spelling after valid split =
       let q = begins_text spelling valid (after, split) in
       let inner = print_elements q.elements in
       let follows =
       between double_quote rest inner after (split ∙ ap (λ l. l ++ after) q.printed) in
-      ap (text_length double_quote 0) follows
+      ap (string_length double_quote 0) follows
       ∙ text_complete double_quote q.elements after refl q.valid
       ∙ ap Some (omega (arith, ap length q.printed, length-marks double_quote inner))
 

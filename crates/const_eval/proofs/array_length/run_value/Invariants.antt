@@ -2,7 +2,7 @@ use Rattle.std.proofs.Common.{◌≡◌, drop}
 use Rattle.const_eval.specs.Machine.{values, run, finish, whole, state_of}
 use Rattle.const_eval.specs.Names.{names_of}
 use Rattle.const_eval.specs.Reading.{operand_value}
-use Rattle.const_eval.specs.Values.{◌|>◌}
+use Rattle.go_literals.specs.Options.{◌|>◌}
 use Rattle.const_eval.specs.Lengths.{texts_of}
 use Rattle.const_eval.proofs.array_length.run_value.Given as goal
 

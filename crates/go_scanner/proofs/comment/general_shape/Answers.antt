@@ -1,4 +1,4 @@
-use Rattle.std.proofs.Common.{◌≡◌, Some, length, sym, arith, length-take}
+use Rattle.std.proofs.Common.{◌≡◌, Some, sym, arith, length-take}
 use Rattle.go_scanner.specs.TextBytes.{comment_end}
 use Rattle.go_scanner.proofs.Closings.{comment_end_within}
 use Rattle.go_scanner.proofs.comment.general_shape.Goals as goal

@@ -1,6 +1,6 @@
 use Rattle.std.proofs.Common.{◌∙◌}
 use Rattle.memchr.specs.Find.{is_byte}
-use Rattle.go_scanner.proofs.Places.{any_found}
+use Rattle.go_literals.proofs.Places.{any_found}
 use Rattle.go_scanner.proofs.comment.has_newline.Goals as goal
 
 pub returns : goal.returns

@@ -1,4 +1,4 @@
-use Rattle.go_scanner.proofs.Places.{place_none, place_some}
+use Rattle.go_literals.proofs.Places.{place_none, place_some}
 use Rattle.memchr.specs.Find.{is_byte}
 use Rattle.go_scanner.proofs.number.imaginary_place.Goals as goal
 

@@ -1,7 +1,7 @@
 use Rattle.std.proofs.Common.{◌≡◌, true, take, drop, refl, sym, ◌∙◌, ap}
 use Rattle.std.proofs.lemmas.List.{take_rest}
 use Rattle.std.specs.Char.{is_ascii_hexdigit}
-use Rattle.go_scanner.specs.NumberBytes.{spells_mantissa, spells_exponent, exponent_place}
+use Rattle.go_scanner.specs.NumberBytes.{spells_mantissa, spells_exponent}
 use Rattle.go_scanner.proofs.Standing.Floats.{hexadecimal_at}
 use Rattle.go_scanner.proofs.number.spells_hexadecimal_float.Goals as goal
 

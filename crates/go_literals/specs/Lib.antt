@@ -1,0 +1,5 @@
+-- Cited by public clauses.
+pub mod Extents
+pub mod Literals
+pub mod Options
+pub mod Reading

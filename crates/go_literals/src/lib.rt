@@ -1,0 +1,19 @@
+//! What integer, rune and string literals of Go denote (The Go Programming Language Specification,
+//! "Integer literals", "Rune literals", "String literals"), and how many bytes they have.
+//!
+//! ```
+//! let number = integer_value(b"0x_FF");
+//! let code = rune_value(b"'\\n'");
+//! let length = string_length(b"after the opening quote\" and more");
+//! ```
+#![tactic(auto)]
+
+mod digits;
+mod escape;
+mod extent;
+mod integer;
+mod rune;
+
+pub use extent::{raw_length, rune_length, string_length};
+pub use integer::integer_value;
+pub use rune::rune_value;
