@@ -94,6 +94,12 @@ fn walk_folder<R: Files + AllocGlobal + Clone + Drop>(
 }
 
 /// Meets the entries of a folder. A folder that can't be read is an error.
+///
+/// # Errors
+///
+/// - `Failed` where the folder is an error, an entry or its kind is one, or there are more than
+///   [`MAX_ENTRIES`] entries.
+/// - `NoMemory` where that error says so, or an allocation is refused.
 pub fn visit_all<R: Files + Clone + Drop>(
     alloc: Global,
     folder: &str,
@@ -134,6 +140,11 @@ fn visit<R: Files + Drop>(
 /// Meets an entry of a folder by its name and its kind, which may be an error. It is skipped
 /// where no path that belongs can stand under its name, whatever it is. One entry more than
 /// [`MAX_ENTRIES`] is a fault.
+///
+/// # Errors
+///
+/// - `Failed` where [`MAX_ENTRIES`] entries were met, or a kind that is asked for is an error.
+/// - `NoMemory` where that error says so, or an allocation is refused.
 pub fn visit_named(
     alloc: Global,
     folder: &str,
@@ -176,6 +187,11 @@ pub fn may_lead(name: &str) -> bool
 }
 
 /// Whether an entry is a folder, by what the system says of it. A link isn't one.
+///
+/// # Errors
+///
+/// - `Failed` where the kind is an error.
+/// - `NoMemory` where that error says so.
 pub fn is_folder(kind: io::Result<FileType>) -> Result<bool, IoFail>
     ensures { MatchResult kind (λ kind. IsOkAnd result (λ it. IsTrue it ↔ IsDir kind))
         (λ error. IsErrAnd result (IsFailOf error)) }
