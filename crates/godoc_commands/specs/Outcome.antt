@@ -1,8 +1,9 @@
 -- Cited by public clauses. What a run did to its tree and its output. The project's own.
-use Rattle.std.specs.Prelude.{◌≡◌, ◌≢◌, ℕ, ◌⊎◌, List, ◌++◌, Option, ⊤}
+use Rattle.std.specs.Prelude.{◌≡◌, ◌≢◌, ℕ, ◌≤◌, ◌⊎◌, List, ◌++◌, Option, ⊤}
 use Rattle.corpus.specs.Snapshots.{IsWithinLimits, source_set}
 use Rattle.go_ast.specs.declared.config.Config.{Config}
 use Rattle.link_io.specs.Streams.{Adds}
+use Rattle.plain_data.specs.Causes.{IsCaused}
 use Rattle.tree_io.specs.Entries.{IsScannedFrom}
 use Rattle.tree_io.specs.Scans.{OpensScan}
 use Rattle.tree_io.specs.Sources.{Contents, Sources}
@@ -24,6 +25,15 @@ pub record ScansOnce {T : Type 0} (tree : Change T TreeState) (status : Status) 
   -- the tree is too large by its files, or by the bytes of those that were read
   pub limit : (files bytes : ℕ) → status ≡ statuses.Limit files bytes
       → IsTooLarge (after tree).scans (before tree).read_faults (after tree).read_faults files bytes
+  -- the tree can't be listed only where the count of list faults rose by one, or stands at its end,
+  -- and otherwise this count is unchanged
+  pub list_faults : IsCaused (before tree).list_faults (after tree).list_faults
+      (status ≡ statuses.TreeFault)
+  -- the count of read faults hasn't fallen
+  pub later : (before tree).read_faults ≤ (after tree).read_faults
+  -- where the tree can't be listed no read failed
+  pub no_file_read : status ≡ statuses.TreeFault
+      → (after tree).read_faults ≡ (before tree).read_faults
 
 -- the text of `find`, by this configuration, over the sources of the scan under way, which are
 -- within the limits
@@ -74,6 +84,8 @@ pub record FindsPlan {T O : Type 0} (config : Config) (name : List ℕ) (tree : 
   pub prefix : status ≡ statuses.WriteFault → WritesPrefix config name tree out
   pub no_memory : status ≡ statuses.NoMemory
       → IsUnchanged out ⊎ WritesPrefix config name tree out
+  -- a write failed only where the count of write faults rose by one, or stands at its end
+  pub write_faults : IsCaused (before out).faults (after out).faults (status ≡ statuses.WriteFault)
 
 -- an end without a fault: all was done, an allocation was refused, or the tree is too large
 abbrev pub IsWithoutFault : Status → Type 0

@@ -3,6 +3,7 @@ use Rattle.std.specs.Prelude.{◌≡◌, ◌≢◌, ℕ, ◌⊎◌, ◌↔◌, B
 use Rattle.corpus.specs.Corpora.{Edition, IsEdition}
 use Rattle.go_ast.specs.declared.config.Config.{Config}
 use Rattle.link_io.specs.Streams.{Takes, Adds}
+use Rattle.plain_data.specs.Causes.{IsCaused}
 use Rattle.session.specs.declared.session_end.SessionEnd.{SessionEnd}
 use Rattle.session.specs.declared.session_end.SessionEnd.TheVariants as ends
 use Rattle.session.specs.Session.{Exchange}
@@ -86,3 +87,7 @@ pub record AnswersPlan {T I O : Type 0} (config : Config) (tree : Change T TreeS
       → Answers config tree input out status
   pub no_memory : status ≡ statuses.NoMemory
       → AreUnchanged input out ⊎ Answers config tree input out status
+  -- a read or a write failed only where its count of faults rose by one, or stands at its end
+  pub read_faults : IsCaused (before input).faults (after input).faults
+      (status ≡ statuses.ReadFault)
+  pub write_faults : IsCaused (before out).faults (after out).faults (status ≡ statuses.WriteFault)

@@ -73,6 +73,9 @@ pub(crate) fn scan_edition<T: Tree>(
         (T.read_faults tree.old) (T.read_faults tree.new)) }
     ensures list_faults { IsCaused (T.list_faults tree.old) (T.list_faults tree.new)
         (result ≡ Err ScanFault.TreeFault) }
+    ensures later { T.read_faults tree.old ≤ T.read_faults tree.new }
+    ensures no_file_read { result ≡ Err ScanFault.TreeFault
+        → T.read_faults tree.new ≡ T.read_faults tree.old }
     ensures one_scan { result ≢ Err ScanFault.TreeFault → result ≢ Err ScanFault.NoMemory
         → OpensScan (T.scans tree.old) (T.scans tree.new) }
     ensures at_most_one_scan { OpensAtMostOne (T.scans tree.old) (T.scans tree.new) }
@@ -103,6 +106,8 @@ pub(crate) fn scan_tree<T: Tree>(
     ensures list_faults { IsCaused (T.list_faults tree.old) (T.list_faults tree.new)
         (result ≡ Err ScanFault.TreeFault) }
     ensures later { T.read_faults tree.old ≤ T.read_faults tree.new }
+    ensures no_file_read { result ≡ Err ScanFault.TreeFault
+        → T.read_faults tree.new ≡ T.read_faults tree.old }
     ensures one_scan { result ≢ Err ScanFault.TreeFault → result ≢ Err ScanFault.NoMemory
         → OpensScan (T.scans tree.old) (T.scans tree.new) }
     ensures at_most_one_scan { OpensAtMostOne (T.scans tree.old) (T.scans tree.new) }

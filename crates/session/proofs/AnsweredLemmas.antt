@@ -1,7 +1,8 @@
 -- What a session wrote, by the requests of its stream.
 use Rattle.std.proofs.Common.{◌≡◌, ℕ, ◌+◌, ◌-◌, ◌<◌, ◌≤◌, ◌⊎◌, Bool, true, false, cond, ◌||◌, ◌&&◌}
 use Rattle.std.proofs.Common.{not, eqb, ltb, List, [], ◌∷◌, ◌++◌, length, take, refl, sym, ap, ◌∙◌}
-use Rattle.std.proofs.Common.{arith, append_assoc, append-nil, length-append, inl, inr, ⊎_elim}
+use Rattle.std.proofs.Common.{subst, arith, append_assoc, append-nil, length-append, inl, inr}
+use Rattle.std.proofs.Common.{⊎_elim}
 use Rattle.std.specs.List.{concat}
 use Rattle.std.proofs.lemmas.Bool.{false≢true}
 use Rattle.std.proofs.lemmas.Bool.Decides.{nat_tests}
@@ -176,6 +177,7 @@ module _ {E : Type 0} (reply : Replier E) (history : List E) (requests : List Re
     text = λ whole. absurd (whole.1 refl);
     exact = λ whole. absurd (whole.1 refl);
     begun = λ e. cc;
+    shorter = λ e. cc;
     whole_replies = λ e. cc;
     no_memory = λ _. ⊎_elim
         (λ all. inl (all ∙ sym (first_replies-front (length entries) begins short)))
@@ -183,17 +185,20 @@ module _ {E : Type 0} (reply : Replier E) (history : List E) (requests : List Re
   }
 
   pub answered_cut : answerable requests ≡ front ++ tail → length entries ≤ length front
-      → StartsWith (concat (replies_from reply history 1 front entries) ++ refusal requests end
-      (length entries)) written
+      → (begun : StartsWith (concat (replies_from reply history 1 front entries)
+      ++ refusal requests end (length entries)) written)
+      → 0 < length begun.0
       → StartsWith written (concat (take (length entries - 1)
       (replies_from reply history 1 front entries)))
       → IsAnswered reply history requests end entries written ends.WriteFault
-  answered_cut begins short begun whole_replies = record {
+  answered_cut begins short begun some whole_replies = record {
     within = within_front begins short;
     each = λ whole. absurd (whole.0 refl);
     text = λ whole. absurd (whole.0 refl);
     exact = λ whole. absurd (whole.0 refl);
     begun = λ _. (begun.0, session_text-front begins short ∙ begun.1);
+    shorter = λ _. subst (λ (w : List ℕ). length written < length w)
+        (sym (session_text-front begins short ∙ begun.1)) (simp length-append (omega arith));
     whole_replies = λ _. (
       whole_replies.0,
       whole_replies.1 ∙ ap (λ w. w ++ whole_replies.0)
@@ -217,6 +222,7 @@ module _ {E : Type 0} (reply : Replier E) (history : List E) (requests : List Re
         (replies-counted reply history (answerable requests) entries);
     exact = λ _. exact;
     begun = λ e. absurd (no_fault e);
+    shorter = λ e. absurd (no_fault e);
     whole_replies = λ e. absurd (no_fault e);
     no_memory = λ e. absurd (memory e);
   }

@@ -6,7 +6,7 @@ use Rattle.std.proofs.Common.{⊎_elim}
 use Rattle.std.specs.Prelude.{IsSome, All}
 use Rattle.std.specs.List.{concat}
 use Rattle.std.proofs.lemmas.Bool.{false≢true}
-use Rattle.std.proofs.lemmas.List.{take_all, take-append-drop, length-take-le}
+use Rattle.std.proofs.lemmas.List.{take_all, take-append-drop, length-take-le, length-drop}
 use Rattle.http_wire.specs.declared.request.Request.{Request}
 use Rattle.http_wire.specs.Reply.{bad_reply_bytes}
 use Rattle.http_wire.specs.Requests.{Requests, HasGiven, none_yet, StreamEnd, Bad, Unfinished}
@@ -142,10 +142,10 @@ module _ {E : Type 0} {reply : Replier E} {left left_now held held_now : Option 
       no_fault memory)
 
   -- a failed write in the bad reply
-  pub cut_in_refusal : count < 1000 → (part : ℕ)
+  pub cut_in_refusal : count < 1000 → (part : ℕ) → part < length bad_reply_bytes
       → IsAnswered reply view.seen so_far.given Bad so_far.entries
       (so_far.written ++ take part bad_reply_bytes) ends.WriteFault
-  cut_in_refusal room part =
+  cut_in_refusal room part short =
       let given : List Request = so_far.given in
       let entries : List ℕ = so_far.entries in
       let texts : List (List ℕ) = replies_from reply view.seen 1 given entries in
@@ -164,7 +164,8 @@ module _ {E : Type 0} {reply : Replier E} {left left_now held held_now : Option 
       (so_far.written ++ take part bad_reply_bytes)
       (answerable-all given so_far.none_closes (few_given room) ∙ sym (append-nil given))
       (omega arith)
-      (drop part bad_reply_bytes, ap (λ (w : List ℕ). concat texts ++ w) due ∙ sym whole) (
+      (drop part bad_reply_bytes, ap (λ (w : List ℕ). concat texts ++ w) due ∙ sym whole)
+      (omega (arith, length-drop part bad_reply_bytes)) (
         concat (drop most texts) ++ take part bad_reply_bytes,
         ap (λ (w : List ℕ). w ++ take part bad_reply_bytes) (so_far.text ∙ parts)
             ∙ append_assoc (concat (take most texts)) (concat (drop most texts))
@@ -289,11 +290,13 @@ module _ {E : Type 0} {reply : Replier E} {left left_now held held_now : Option 
         ∙ ap concat (take_all (length entries) texts long)
         ∙ sym (text_with so_far new request last enters later last_is)
 
-    cut_in_reply : count < 1000 → (part : ℕ) (requests more : List Request) (end : StreamEnd)
+    cut_in_reply : count < 1000 → (part : ℕ)
+        → part < length (newest_reply reply new request last)
+        → (requests more : List Request) (end : StreamEnd)
         → requests ≡ so_far.given ++ request ∷ more
         → IsAnswered reply new.seen requests end (so_far.entries ++ length new.seen ∷ [])
         (so_far.written ++ take part (newest_reply reply new request last)) ends.WriteFault
-    cut_in_reply room part requests more end is =
+    cut_in_reply room part short requests more end is =
         let made : List ℕ = newest_reply reply new request last in
         let entries : List ℕ = so_far.entries ++ length new.seen ∷ [] in
         let begins = answerable-next so_far.given request more so_far.none_closes
@@ -310,7 +313,8 @@ module _ {E : Type 0} {reply : Replier E} {left left_now held held_now : Option 
           drop part made ++ bad,
           ap (λ (w : List ℕ). w ++ bad) (sym whole) ∙ append_assoc
               (so_far.written ++ take part made) (drop part made) bad,
-        ) (
+        )
+        (simp length-append (omega (arith, length-drop part made))) (
           take part made,
           ap (λ (w : List ℕ). w ++ take part made)
               (most_replies so_far new request last enters later last_is),
@@ -329,7 +333,7 @@ module _ {E : Type 0} {reply : Replier E} {left left_now held held_now : Option 
         simp length-append (omega arith) in
         let all = ap length (all_replies room) in
         exchange_entered fed now (so_far.written ++ take part made) ended ends.WriteFault given
-        paced (inr (cut (omega arith))) (cut_in_reply room part)
+        paced (inr (cut (omega arith))) (cut_in_reply room part short)
 
     -- the request closes
 
@@ -425,6 +429,8 @@ module _ {E : Type 0} (reply : Replier E) (history more : List E) (entries : Lis
         exact = a.exact;
         begun = λ e. subst (λ (texts : List (List ℕ)). StartsWith
             (concat texts ++ refusal requests end (length entries)) written) same (a.begun e);
+        shorter = λ e. subst (λ (texts : List (List ℕ)). length written
+            < length (concat texts ++ refusal requests end (length entries))) same (a.shorter e);
         whole_replies = λ e. subst (λ (texts : List (List ℕ)). StartsWith written
             (concat (take (length entries - 1) texts))) same (a.whole_replies e);
         no_memory = λ e. ⊎_elim

@@ -258,13 +258,13 @@ Session-unrefused reply left middle after held held_now held_after old view read
     bad_at_end fed now.ended ended so_far.given later heard.1 in
     exchange_between so_far fed now.rest written ended Bad ends.WriteFault room heard.0
     (paced_after so_far hears.bytes (hears.paced so_far.read so_far.given so_far.has_given))
-    (simp length-append (omega arith)) (inl known) (cut_in_refusal so_far room part.0)
+    (simp length-append (omega arith)) (inl known) (cut_in_refusal so_far room part.0 part.1)
     (λ requests end all.
     let same = Requests_unique fed ended requests so_far.given end Bad all known in
     subst (λ w. IsAnswered reply view.seen requests w so_far.entries written ends.WriteFault)
     (sym same.1)
     (subst (λ w. IsAnswered reply view.seen w Bad so_far.entries written ends.WriteFault)
-    (sym same.0) (cut_in_refusal so_far room part.0))))
+    (sym same.0) (cut_in_refusal so_far room part.0 part.1))))
 Session-unrefused reply left middle after held held_now held_after old view reading now count so_far
     room hears at_end stops.NoMemory same =
     let fed : List ℕ = so_far.read ++ hears.bytes in

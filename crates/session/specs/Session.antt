@@ -1,6 +1,6 @@
 -- Cited by public clauses. What one session did, by the bytes that were read and written in it and
 -- the entries that it gained. The project's own.
-use Rattle.std.specs.Prelude.{◌≡◌, ◌≢◌, ℕ, ◌-◌, ◌≤◌, ◌⊎◌, ◌↔◌, Bool, IsTrue, List, [], ◌++◌}
+use Rattle.std.specs.Prelude.{◌≡◌, ◌≢◌, ℕ, ◌-◌, ◌<◌, ◌≤◌, ◌⊎◌, ◌↔◌, Bool, IsTrue, List, [], ◌++◌}
 use Rattle.std.specs.Prelude.{length, All, Option, IfSome, IsSome}
 use Rattle.http_wire.specs.declared.request.Request.{Request}
 use Rattle.http_wire.specs.Requests.{HasGiven, Requests, StreamEnd}
@@ -43,10 +43,12 @@ pub record IsAnswered {E : Type 0} (reply : Replier E) (history : List E)
   pub each : IsWhole result → length entries ≡ length (answerable requests)
   pub text : IsWhole result → written ≡ session_text reply history requests end entries
   pub exact : IsWhole result → result ≡ end_of requests end
-  -- a failed write leaves a prefix of the text, in which at most the last reply by an entry isn't
-  -- whole
+  -- a failed write leaves a prefix of the text, and never the whole of it, in which at most the
+  -- last reply by an entry isn't whole
   pub begun : result ≡ ends.WriteFault
       → StartsWith (session_text reply history requests end entries) written
+  pub shorter : result ≡ ends.WriteFault
+      → length written < length (session_text reply history requests end entries)
   pub whole_replies : result ≡ ends.WriteFault
       → StartsWith written (first_replies (length entries - 1) reply history requests entries)
   -- NoMemory leaves whole replies, of which the last one by an entry may be missing

@@ -8,11 +8,9 @@ use std::io::{ErrorKind, Read};
 use std::os::unix::fs::symlink;
 use std::test::Fail;
 use std::{env, fs, io};
-use tree_io::place::{full_path, join};
-use tree_io::walk::{MAX_ENTRIES, Walk, is_folder, may_lead, visit_all, visit_named};
 use tree_io::{
-    Entry, FsTree, MAX_PATH_BYTES, MemTree, Tree, belongs, names_that_lead, read_entry,
-    read_entry_from,
+    Entry, FsTree, MAX_ENTRIES, MAX_PATH_BYTES, MemTree, Tree, Walk, belongs, full_path, is_folder,
+    join, may_lead, names_that_lead, read_entry, read_entry_from, visit_all, visit_named,
 };
 
 #[test]
@@ -317,6 +315,25 @@ fn an_entry_whose_kind_is_unknown_fails_where_paths_may_stand(rt: HostRuntime) {
     let kind = Err(io::Error::from(ErrorKind::OutOfMemory));
     let full = visit_named(alloc, "x", ".git", kind, &mut walk);
     assert!(rt; full == Err(IoFail::Failed));
+}
+
+/// How many of this many entries a walk meets before one is refused. Their name is skipped.
+fn entries_met(alloc: Global, entries: u64) -> u64 {
+    let mut walk = Walk::new(alloc);
+    for met in 0..entries {
+        let kind = Err(io::Error::from(ErrorKind::Other));
+        match visit_named(alloc, "", ".git", kind, &mut walk) {
+            Ok(()) => {}
+            Err(_) => return met,
+        }
+    }
+    entries
+}
+
+#[test]
+fn a_walk_meets_at_most_4_000_000_entries(rt: HostRuntime) {
+    assert!(rt; entries_met(rt.alloc(), 4_000_000) == 4_000_000);
+    assert!(rt; entries_met(rt.alloc(), 4_000_001) == 4_000_000);
 }
 
 #[test]

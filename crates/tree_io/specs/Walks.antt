@@ -1,6 +1,7 @@
 -- Cited by public clauses. How far a walk through a folder may have come, and what it
 -- does at an entry. The project's own.
-use Rattle.std.specs.Prelude.{◌≡◌, ℕ, ◌+◌, ◌-◌, ◌≤◌, List, [], ◌∷◌, ◌++◌, map, All, string_bytes, vec_len}
+use Rattle.std.specs.Prelude.{◌≡◌, ℕ, ◌+◌, ◌-◌, ◌≤◌, ◌⊎◌, List, [], ◌∷◌, ◌++◌, map, All}
+use Rattle.std.specs.Prelude.{string_bytes, vec_len}
 use Rattle.std.specs.Fs.{IsDir}
 use Rattle.std.specs.declared.fs.attrs.FileType.{FileType}
 use Rattle.tree_io.specs.Path.{Belongs}
@@ -31,8 +32,8 @@ pub record IsWalk (walk : Walk) : Type 0 where
 abbrev pub most_ahead : Walk → ℕ
 most_ahead walk = vec_len walk.folders + (entry_limit - walk.met)
 
--- a walk went on, and has no more ahead than it had
-pub record GoesOn (old new : Walk) : Type 0 where
+-- a walk continued, and has no more ahead than it had
+pub record Continues (old new : Walk) : Type 0 where
   pub walk : IsWalk new
   pub nearer : most_ahead new ≤ most_ahead old
 
@@ -48,6 +49,16 @@ pub record GainsPath (path : List ℕ) (old new : Walk) : Type 0 where
 pub record GainsNothing (old new : Walk) : Type 0 where
   pub folders : folders_in new ≡ folders_in old
   pub paths : paths_in new ≡ paths_in old
+
+-- what a walk gained at an entry with this path that isn't a folder: the path if it belongs, and
+-- otherwise nothing
+abbrev pub MeetsFile : List ℕ → Walk → Walk → Type 0
+MeetsFile path old new =
+    (Belongs path × GainsPath path old new) ⊎ ((¬ Belongs path) × GainsNothing old new)
+
+-- what a walk gained at an entry with this path, whatever its kind is
+abbrev pub MeetsEither : List ℕ → Walk → Walk → Type 0
+MeetsEither path old new = GainsFolder path old new ⊎ MeetsFile path old new
 
 -- what a walk gained at an entry with this path and of this kind
 pub record Meets (path : List ℕ) (kind : FileType) (old new : Walk) : Type 0 where

@@ -44,6 +44,11 @@ pub(crate) fn length_of_file(metadata: io::Result<Metadata>) -> Result<u64, IoFa
 /// The entry of the bytes that remain in a reader, which may be an error of opening it. At most
 /// [`MAX_FILE_BYTES`] and one byte are read; room is made at once for this many bytes as are
 /// expected.
+///
+/// # Errors
+///
+/// - `Failed` where the reader is an error, or a read fails.
+/// - `NoMemory` where that error says so, or an allocation is refused.
 pub fn read_entry_from<R: Read + Drop>(
     alloc: Global,
     reader: io::Result<R>,

@@ -19,9 +19,9 @@ mod folder;
 mod memory;
 mod names;
 mod path;
-pub mod place;
+mod place;
 mod tree;
-pub mod walk;
+mod walk;
 
 pub use entries::read_entry;
 pub use file::read_entry_from;
@@ -29,4 +29,6 @@ pub use folder::FsTree;
 pub use memory::MemTree;
 pub use names::names_that_lead;
 pub use path::{MAX_PATH_BYTES, belongs};
+pub use place::{full_path, join};
 pub use tree::{Entry, MAX_FILE_BYTES, Tree};
+pub use walk::{MAX_ENTRIES, Walk, is_folder, may_lead, visit_all, visit_named};

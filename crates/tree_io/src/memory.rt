@@ -45,6 +45,10 @@ impl MemTree {
 
     /// A tree that tells of each version the paths that belong, each once and with its first bytes,
     /// and whose calls with the numbers in `failing`, counted from 1, fail. No scan is open yet.
+    ///
+    /// # Errors
+    ///
+    /// `NoMemory` where an allocation is refused.
     pub fn new(alloc: Global, versions: Seq<Seq<(Txt, Bytes)>>, failing: Vec<u64>) -> Mem<MemTree>
         ensures told { IfOk result (λ tree. AllZip IsTold versions tree.versions) }
         ensures no_scan { IfOk result (λ tree. tree.scans ≡ []) }

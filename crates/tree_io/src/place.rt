@@ -7,6 +7,10 @@ use plain_data::Mem;
 use std::alloc::Global;
 
 /// The path of an entry of a folder below the root, which has the empty path.
+///
+/// # Errors
+///
+/// `NoMemory` where an allocation is refused.
 pub fn join(alloc: Global, folder: &str, name: &str) -> Mem<String>
     ensures { IfOk result (λ path. string_bytes path ≡ joined folder.now name.now) }
 {
@@ -19,6 +23,10 @@ pub fn join(alloc: Global, folder: &str, name: &str) -> Mem<String>
 }
 
 /// The path of a file or a folder below the root, from where the program runs.
+///
+/// # Errors
+///
+/// `NoMemory` where an allocation is refused.
 pub fn full_path(alloc: Global, root: &str, path: &str) -> Mem<String>
     ensures { IfOk result (λ whole. string_bytes whole ≡ full root.now path.now) }
 {

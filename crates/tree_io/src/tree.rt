@@ -37,17 +37,25 @@ pub trait Tree {
     /// How often `read` has failed.
     ghost read_faults: { Self → ℕ };
 
-    /// Opens the next scan. `Failed` comes only where the count of list faults rose by one in this
-    /// call, or stands at its end; no scan is opened then.
+    /// Opens the next scan.
+    ///
+    /// # Errors
+    ///
+    /// `Failed` only where the count of list faults rose by one in this call, or stands at its end.
+    /// No scan is opened then.
     fn open_scan(&mut self) -> Result<(), Failed>
         ensures opens { OnOk result (OpensScan (scans self.old) (scans self.new)) }
         ensures same_scans { OnErr result (scans self.new ≡ scans self.old) }
         ensures cause { HasCause (list_faults self.old) (list_faults self.new) result }
         ensures same_read_faults { read_faults self.new ≡ read_faults self.old };
 
-    /// The paths of the scan under way that belong, strictly rising by their bytes. `Failed` comes
-    /// only where the count of list faults rose by one in this call, or stands at its end;
-    /// `NoMemory` where an allocation was refused.
+    /// The paths of the scan under way that belong, sorted strictly ascending by their bytes.
+    ///
+    /// # Errors
+    ///
+    /// - `Failed` only where the count of list faults rose by one in this call, or stands at its
+    ///   end.
+    /// - `NoMemory` where an allocation is refused.
     fn list(&mut self, alloc: Global) -> Result<Seq<Txt>, IoFail>
         ensures told { IfOk result (IsListed (scans self.old)) }
         ensures belong { IfOk result (All Belongs) }
@@ -57,8 +65,13 @@ pub trait Tree {
         ensures same_read_faults { read_faults self.new ≡ read_faults self.old };
 
     /// The file at a path of the scan under way: its bytes, or `Large` where it has more than
-    /// [`MAX_FILE_BYTES`]; never `Unread`. `Failed` comes only where the count of read faults
-    /// rose by one in this call, or stands at its end; `NoMemory` where an allocation was refused.
+    /// [`MAX_FILE_BYTES`]; never `Unread`.
+    ///
+    /// # Errors
+    ///
+    /// - `Failed` only where the count of read faults rose by one in this call, or stands at its
+    ///   end.
+    /// - `NoMemory` where an allocation is refused.
     fn read(&mut self, alloc: Global, path: &str) -> Result<Entry, IoFail>
         requires { IsKnown (scans self.old) path.now }
         ensures told { IfOk result (IsReadAs (scans self.old) path.now) }

@@ -1,12 +1,14 @@
 //! The walk through a real folder.
 
-ghost use Rattle.std.specs.Prelude.{◌≡◌, ◌≢◌, ◌+◌, [], ◌≤◌, ◌<◌, ◌↔◌, All, IfErr, IfOk, IsErrAnd, IsOk, IsOkAnd, IsTrue, MatchResult, OnOk, Err, false, map, string_bytes, vec_len};
+ghost use Rattle.std.specs.Prelude.{◌≡◌, ◌≢◌, ◌+◌, [], ◌≤◌, ◌<◌, ◌↔◌, All, IfErr, IfOk, IsErrAnd};
+ghost use Rattle.std.specs.Prelude.{IsOk, IsOkAnd, IsTrue, MatchResult, OnOk, Err, false, map};
+ghost use Rattle.std.specs.Prelude.{string_bytes, vec_len};
 ghost use Rattle.std.specs.Fs.{IsDir, dir_entry_name};
-ghost use Rattle.std.specs.declared.fs.attrs.FileType.{FileType};
 ghost use Rattle.plain_data.specs.Causes.{IsFailOf};
 ghost use Rattle.tree_io.specs.Path.{Belongs, IsRising, MayLead};
 ghost use Rattle.tree_io.specs.Places.{joined};
-ghost use Rattle.tree_io.specs.Walks.{FindsSources, GainsFolder, GainsNothing, GainsPath, GoesOn, IsWalk, Meets, entry_limit};
+ghost use Rattle.tree_io.specs.Walks.{Continues, FindsSources, GainsFolder, GainsNothing};
+ghost use Rattle.tree_io.specs.Walks.{GainsPath, IsWalk, Meets, MeetsEither, entry_limit};
 
 use crate::path::{belongs, has_path_bytes, is_source_folder};
 use crate::place::{full_path, join};
@@ -85,13 +87,19 @@ fn walk_folder<R: Files + AllocGlobal + Clone + Drop>(
     walk: &mut Walk,
 ) -> Result<(), IoFail>
     requires walk { IsWalk walk.old }
-    ensures walk { OnOk result (GoesOn walk.old walk.new) }
+    ensures walk { OnOk result (Continues walk.old walk.new) }
 {
     let whole = full_path(alloc, root, folder)?;
     visit_all(alloc, folder, fs::read_dir(rt, whole.as_str()), walk)
 }
 
 /// Meets the entries of a folder. A folder that can't be read is an error.
+///
+/// # Errors
+///
+/// - `Failed` where the folder is an error, an entry or its kind is one, or there are more than
+///   [`MAX_ENTRIES`] entries.
+/// - `NoMemory` where that error says so, or an allocation is refused.
 pub fn visit_all<R: Files + Clone + Drop>(
     alloc: Global,
     folder: &str,
@@ -100,7 +108,7 @@ pub fn visit_all<R: Files + Clone + Drop>(
 ) -> Result<(), IoFail>
     requires walk { IsWalk walk.old }
     ensures unread { IfErr entries (λ error. IsErrAnd result (IsFailOf error)) }
-    ensures walk { OnOk result (GoesOn walk.old walk.new) }
+    ensures walk { OnOk result (Continues walk.old walk.new) }
 {
     for entry in entries? {
         visit(alloc, folder, entry, walk)?;
@@ -118,12 +126,12 @@ fn visit<R: Files + Drop>(
     requires walk { IsWalk walk.old }
     ensures error { IfErr entry (λ error. IsErrAnd result (IsFailOf error)) }
     ensures full { IsOk entry → walk.old.met ≡ entry_limit → result ≡ Err IoFail.Failed }
-    ensures passed_over { IfOk entry (λ entry. walk.old.met < entry_limit
+    ensures skipped { IfOk entry (λ entry. walk.old.met < entry_limit
         → ¬ MayLead (dir_entry_name entry) → IsOk result × GainsNothing walk.old walk.new) }
     ensures meets { IfOk entry (λ entry. MayLead (dir_entry_name entry)
-        → OnOk result ((kind : FileType)
-        × Meets (joined folder.now (dir_entry_name entry)) kind walk.old walk.new)) }
-    ensures walk { OnOk result (GoesOn walk.old walk.new) }
+        → OnOk result (MeetsEither (joined folder.now (dir_entry_name entry))
+        walk.old walk.new)) }
+    ensures walk { OnOk result (Continues walk.old walk.new) }
 {
     let entry = entry?;
     visit_named(alloc, folder, entry.file_name(), entry.file_type(), walk)
@@ -132,6 +140,11 @@ fn visit<R: Files + Drop>(
 /// Meets an entry of a folder by its name and its kind, which may be an error. It is skipped
 /// where no path that belongs can stand under its name, whatever it is. One entry more than
 /// [`MAX_ENTRIES`] is a fault.
+///
+/// # Errors
+///
+/// - `Failed` where [`MAX_ENTRIES`] entries were met, or a kind that is asked for is an error.
+/// - `NoMemory` where that error says so, or an allocation is refused.
 pub fn visit_named(
     alloc: Global,
     folder: &str,
@@ -144,10 +157,12 @@ pub fn visit_named(
     ensures no_kind { walk.old.met < entry_limit → MayLead name.now
         → IfErr kind (λ error. IsErrAnd result (IsFailOf error)) }
     ensures no_fault { walk.old.met < entry_limit → IsOk kind → result ≢ Err IoFail.Failed }
-    ensures passed_over { walk.old.met < entry_limit → ¬ MayLead name.now
+    ensures skipped { walk.old.met < entry_limit → ¬ MayLead name.now
         → IsOk result × GainsNothing walk.old walk.new }
     ensures meets { MayLead name.now → IfOk kind (λ kind.
         OnOk result (Meets (joined folder.now name.now) kind walk.old walk.new)) }
+    ensures either { MayLead name.now
+        → OnOk result (MeetsEither (joined folder.now name.now) walk.old walk.new) }
     ensures met { OnOk result (walk.new.met ≡ walk.old.met + 1) }
     ensures walk { OnOk result (IsWalk walk.new) }
     ensures folders { OnOk result (vec_len walk.new.folders ≤ vec_len walk.old.folders + 1) }
@@ -172,6 +187,11 @@ pub fn may_lead(name: &str) -> bool
 }
 
 /// Whether an entry is a folder, by what the system says of it. A link isn't one.
+///
+/// # Errors
+///
+/// - `Failed` where the kind is an error.
+/// - `NoMemory` where that error says so.
 pub fn is_folder(kind: io::Result<FileType>) -> Result<bool, IoFail>
     ensures { MatchResult kind (λ kind. IsOkAnd result (λ it. IsTrue it ↔ IsDir kind))
         (λ error. IsErrAnd result (IsFailOf error)) }
@@ -188,6 +208,7 @@ fn meet(path: String, is_folder: bool, walk: &mut Walk) -> Mem<()>
         → OnOk result (GainsPath (string_bytes path) walk.old walk.new) }
     ensures other { is_folder ≡ false → ¬ Belongs (string_bytes path)
         → GainsNothing walk.old walk.new }
+    ensures either { OnOk result (MeetsEither (string_bytes path) walk.old walk.new) }
     ensures belong { OnOk result (FindsSources walk.new) }
     ensures same_met { walk.new.met ≡ walk.old.met }
     ensures folders { vec_len walk.new.folders ≤ vec_len walk.old.folders + 1 }
