@@ -1,17 +1,21 @@
 -- Under each name the table of a corpus has the identifiers with that text of the kept files.
-use Rattle.std.proofs.Common.{◌≡◌, ℕ, ◌<◌, List, [], ◌∷◌, All, AllPairs, map, refl, sym, ap, subst, ◌∙◌, arith}
+use Rattle.std.proofs.Common.{◌≡◌, ℕ, ◌<◌, List, [], ◌∷◌, All, AllPairs, map, refl, sym, ap, subst}
+use Rattle.std.proofs.Common.{◌∙◌, arith}
 use Rattle.std.specs.List.{AllByRecursion, flat_map}
 use Rattle.std.specs.List.Sorted.{IsStrictlySortedBy}
 use Rattle.std.specs.Ordering.{nat_cmp}
 use Rattle.std.specs.declared.cmp.Ordering.TheVariants.{Less}
 use Rattle.std.proofs.lemmas.Bool.Decides.{nat_tests}
-use Rattle.std.proofs.lemmas.List.Elements.{All-filter, All-from_recursion, All-head, All-map, All-tail, All-weaker}
+use Rattle.std.proofs.lemmas.List.Elements.{All-filter, All-from_recursion, All-head, All-map}
+use Rattle.std.proofs.lemmas.List.Elements.{All-tail, All-weaker}
 use Rattle.std.proofs.lemmas.List.Kept.{AllPairs-cons}
-use Rattle.ident_index.specs.Hits.{IsHitBelow, IsReadFile, ReadFile, hits_with_text, source_and_hits_of}
+use Rattle.ident_index.specs.Hits.{IsHitBelow, IsReadFile, ReadFile, hits_with_text}
+use Rattle.ident_index.specs.Hits.{source_and_hits_of}
 use Rattle.ident_index.specs.Postings.{hits_at, hits_named, named_of_all}
 use Rattle.ident_index.proofs.IndexLaws.{hits_of_table, hits_of_texts, texts_rise}
 use Rattle.corpus.specs.declared.tables.Tables.{Tables}
-use Rattle.corpus.specs.Corpora.{AcceptedFile, HasHitsByName, IsCorpusOf, accepted, hits_in, is_kept, kept, read_of}
+use Rattle.corpus.specs.Corpora.{AcceptedFile, HasHitsByName, IsCorpusOf, accepted, hits_in}
+use Rattle.corpus.specs.Corpora.{is_kept, kept, read_of}
 use Rattle.corpus.specs.Snapshots.{SourceSet}
 use Rattle.corpus.proofs.Beside.{still_rising}
 use Rattle.corpus.proofs.Numbers.{numbers_rise}
@@ -73,5 +77,6 @@ module _ (s : SourceSet) (t : Tables) (name : List ℕ) (is : IsCorpusOf s t) wh
     texts = texts;
     rising = subst (AllPairs IsHitBelow) (sym texts) (texts_rise name (map read_of (kept t.files))
         are_read (reads_rise (kept t.files)
-        (still_rising number (is_kept t.files) (accepted t.files) (numbers_rise s t.files is.files))));
+        (still_rising number (is_kept t.files) (accepted t.files)
+        (numbers_rise s t.files is.files))));
   }

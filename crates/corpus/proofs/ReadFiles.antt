@@ -25,26 +25,33 @@ pub record IsRead (a : AcceptedFile) : Type 0 where
   pub spells : SpellsFile a.bytes a.parsed.scanned.tokens a.parsed.file
   pub hits_are : a.parsed.hits ≡ hits_of a.bytes a.parsed.scanned.tokens a.parsed.file a.number
 
-with_bytes : (f : JudgedFile) (parsed : Parsed) (is : IsAccepted f.entry f.number parsed) → (bytes : List ℕ) → bytes ≡ is.bytes
+with_bytes : (f : JudgedFile) (parsed : Parsed) (is : IsAccepted f.entry f.number parsed)
+    → (bytes : List ℕ) → bytes ≡ is.bytes
     → IsRead (record { number = f.number; path = f.path; bytes = bytes; parsed = parsed })
-with_bytes f parsed is bytes same = subst (λ bs. IsRead (record { number = f.number; path = f.path; bytes = bs; parsed = parsed })) (sym same) (record {
-  small = is.small;
-  reads = is.reads;
-  lines_are = is.lines_are;
-  spells = is.spells;
-  hits_are = is.hits_are;
-})
+with_bytes f parsed is bytes same = subst (λ bs. IsRead (record
+    { number = f.number; path = f.path; bytes = bs; parsed = parsed })) (sym same) (record {
+      small = is.small;
+      reads = is.reads;
+      lines_are = is.lines_are;
+      spells = is.spells;
+      hits_are = is.hits_are;
+    })
 
-pub read_file : (f : JudgedFile) (parsed : Parsed) → IsJudged f → f.outcome ≡ Accepted parsed → IsRead (accepted_file f parsed)
+pub read_file : (f : JudgedFile) (parsed : Parsed) → IsJudged f → f.outcome ≡ Accepted parsed
+    → IsRead (accepted_file f parsed)
 read_file f parsed judged outcome =
-    let is = accepted_read f.path f.entry f.config f.number parsed (subst (IsOutcomeOf f.path f.entry f.config f.number) outcome judged) in
+    let is = accepted_read f.path f.entry f.config f.number parsed
+    (subst (IsOutcomeOf f.path f.entry f.config f.number) outcome judged) in
     with_bytes f parsed is (bytes_in f.entry) (ap bytes_in is.entry_is)
 
 pub all_read : (files : List JudgedFile) → All IsJudged files → All IsRead (accepted files)
 all_read files judged =
-    All-accepted IsRead files (All-weaker IsJudged (λ f. (parsed : Parsed) → f.outcome ≡ Accepted parsed → IsRead (accepted_file f parsed)) (λ f is parsed outcome. read_file f parsed is outcome) files judged)
+    All-accepted IsRead files (All-weaker IsJudged (λ f. (parsed : Parsed) → f.outcome ≡ Accepted
+    parsed → IsRead (accepted_file f parsed))
+    (λ f is parsed outcome. read_file f parsed is outcome) files judged)
 
 pub has_name : (a : AcceptedFile) → IsRead a → HasName a
 has_name a is =
-    let text = name_text a.bytes a.parsed.scanned.tokens a.parsed.scanned.comments a.parsed.file is.reads is.spells in
+    let text = name_text a.bytes a.parsed.scanned.tokens a.parsed.scanned.comments a.parsed.file
+    is.reads is.spells in
     record { ordered = text.ordered; inside = text.inside; utf8 = text.utf8 }

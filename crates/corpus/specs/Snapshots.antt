@@ -7,7 +7,8 @@ use Rattle.tree_io.specs.declared.tree.Entry.{Entry}
 use Rattle.tree_io.specs.declared.tree.Entry.TheVariants.{Bytes}
 use Rattle.tree_io.specs.Sources.{Sources, IsSources}
 use Rattle.corpus.specs.declared.snapshot.TooLarge.{TooLarge}
-use Rattle.corpus.specs.declared.snapshot.TooLarge.TheVariants.{TooManyFiles, TooManyBytes, NoMemory}
+use Rattle.corpus.specs.declared.snapshot.TooLarge.TheVariants.{TooManyFiles, TooManyBytes}
+use Rattle.corpus.specs.declared.snapshot.TooLarge.TheVariants.{NoMemory}
 
 -- the most files of a scan, and the most bytes that it keeps of them together
 abbrev pub files_limit : ℕ
@@ -43,8 +44,8 @@ pub record IsSnapshot (s : SourceSet) : Type 0 where
   pub valid : IsSources s.entries
   pub limits : IsWithinLimits s.entries
 
--- the count of files where it passes its limit, and else the sum of bytes where that does; no memory
--- is taken
+-- the count of files where it passes its limit, and else the sum of bytes where that does; no
+-- memory is taken
 abbrev pub IsPassed : Sources → TooLarge → Type 0
 IsPassed sources (TooManyFiles count) = (count ≡ length sources) × (files_limit < count)
 IsPassed sources (TooManyBytes sum) =

@@ -4,7 +4,8 @@ ghost use Rattle.std.specs.Prelude.{◌≡◌, ◌<◌, Some, IfOk, false, lengt
 ghost use Rattle.std.specs.List.{list_any, slice_index_or};
 ghost use Rattle.corpus_piece.specs.Pieces.{JudgedFile};
 ghost use Rattle.corpus.specs.declared.faults.FileFault.{FileFault};
-ghost use Rattle.corpus.specs.Corpora.{AreFilesOf, fault_as, faults_of, other_package, package_name};
+ghost use Rattle.corpus.specs.Corpora.{AreFilesOf, fault_as, faults_of, other_package};
+ghost use Rattle.corpus.specs.Corpora.{package_name};
 ghost use Rattle.corpus.specs.Steps.{AreBeside, AreRising, HasName, seen};
 
 use crate::accepted::Accepted;

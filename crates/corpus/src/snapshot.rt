@@ -1,6 +1,7 @@
 //! A whole scan of a tree, as it goes into a corpus.
 
-ghost use Rattle.std.specs.Prelude.{◌≡◌, ◌<◌, ◌^◌, Some, IfErr, IfOk, OnOk, length, map, position, slice_get};
+ghost use Rattle.std.specs.Prelude.{◌≡◌, ◌<◌, ◌^◌, Some, IfErr, IfOk, OnOk, length, map, position};
+ghost use Rattle.std.specs.Prelude.{slice_get};
 ghost use Rattle.std.specs.Str.{bytes_eq};
 ghost use Rattle.tree_io.specs.Path.{paths_of};
 ghost use Rattle.tree_io.specs.Sources.{IsSources};

@@ -111,7 +111,8 @@ module _ (laws : Laws) where
       (subst (λ vs. IsOutcomeAfter a bytes vs cs number x) tokens p))) q
 
   one_found : (path : List ℕ) (entry : Entry) (config : Config) (number : ℕ) (x y : Outcome)
-      → IsFoundOutcome path entry config number x → IsFoundOutcome path entry config number y → x ≡ y
+      → IsFoundOutcome path entry config number x → IsFoundOutcome path entry config number y → x
+      ≡ y
   one_found path entries.Unread config number x y p q = p ∙ sym q
   one_found path entries.Large config number x y p q = p ∙ sym q
   one_found path (entries.Bytes bytes) config number x y (inl (m, p)) (inl (n, q)) = p ∙ sym q

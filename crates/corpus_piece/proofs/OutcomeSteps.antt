@@ -61,7 +61,17 @@ is_found path entry config number outcome o =
       | oversized bytes e n p ↦ at (entries.Bytes bytes) e (inl (n, p))
       | unreadable bytes fault e n s p ↦ at (entries.Bytes bytes) e (inr (n, inl (fault, s, p)))
       | bad_build_line bytes tokens comments line r p ↦ at (entries.Bytes bytes) r.entry_is
-          (inr (r.small, inr (tokens, comments, admissions.BadBuildLine line, r.reads, r.admitted, p)))
+          (inr (
+            r.small,
+            inr (
+              tokens,
+              comments,
+              admissions.BadBuildLine line,
+              r.reads,
+              r.admitted,
+              p,
+            ),
+          ))
       | ignored bytes tokens comments why r p ↦ at (entries.Bytes bytes) r.entry_is
           (inr (r.small, inr (tokens, comments, admissions.Ignored why, r.reads, r.admitted, p)))
       | misspelled bytes tokens comments fault r s p ↦ at (entries.Bytes bytes) r.entry_is

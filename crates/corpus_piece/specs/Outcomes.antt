@@ -1,5 +1,5 @@
--- Cited by public clauses. What becomes of a file of a tree: a fault, excluded, or its one file. The
--- project's own, over the definitions of readings, build lines and declarations.
+-- Cited by public clauses. What becomes of a file of a tree: a fault, excluded, or its one file.
+-- The project's own, over the definitions of readings, build lines and declarations.
 use Rattle.std.specs.Prelude.{◌≡◌, ℕ, ◌<◌, ◌≤◌, List, length}
 use Rattle.build_lines.specs.declared.admission.Admission.{Admission}
 use Rattle.build_lines.specs.declared.admission.Admission.TheVariants as admissions
@@ -40,7 +40,8 @@ pub record IsReadFor (path : List ℕ) (entry : Entry) (config : Config) (bytes 
   pub reads : Reads bytes tokens comments
   pub admitted : IsAdmission path bytes tokens comments config admission
 
--- of a file at a path, by what a scan of the tree has of it, for a configuration and under a number.
+-- of a file at a path, by what a scan of the tree has of it, for a configuration and under a
+-- number.
 -- Each line holds where none above it does
 pub data IsOutcomeOf (path : List ℕ) (entry : Entry) (config : Config) (number : ℕ)
     (outcome : Outcome) : Type 0 where

@@ -1,5 +1,5 @@
--- Cited by private clauses and proofs. The outcome of a file as it is found: by its entry, its bytes,
--- its reading, and its tokens.
+-- Cited by private clauses and proofs. The outcome of a file as it is found: by its entry, its
+-- bytes, its reading, and its tokens.
 use Rattle.std.specs.Prelude.{◌≡◌, ◌⊎◌, ℕ, ◌<◌, ◌≤◌, List, length}
 use Rattle.build_lines.specs.declared.admission.Admission.{Admission}
 use Rattle.build_lines.specs.declared.admission.Admission.TheVariants as admissions

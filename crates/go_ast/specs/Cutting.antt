@@ -1,6 +1,7 @@
 -- Cited by public clauses. Brackets, and lists that are cut at separators outside brackets.
 use Rattle.std.specs.Prelude.{◌≡◌, ℕ, suc, ◌-◌, Bool, true, false, ◌&&◌, not, List, [], ◌∷◌, ◌++◌}
-use Rattle.std.specs.Prelude.{Option, Some, None, length, if◌then◌else◌, ◌==◌, unwrap_or, slice_get, ⊤}
+use Rattle.std.specs.Prelude.{Option, Some, None, length, if◌then◌else◌, ◌==◌, unwrap_or, slice_get}
+use Rattle.std.specs.Prelude.{⊤}
 use Rattle.go_ast.specs.declared.token.TokenRange.{TokenRange}
 use Rattle.go_ast.specs.declared.word.Word.{Word}
 use Rattle.go_ast.specs.declared.word.Mark.{Mark}

@@ -52,6 +52,7 @@ rune_read text n h =
 
 pub rune_none : (text : List ℕ) (found : Option ℕ) → found ≡ read_rune text
     → IfNone found ((n : ℕ) → IsRuneLiteral text n → ⊥)
-rune_none text None h = λ n literal. let e : Some n ≡ None = sym (rune_read text n literal) ∙ sym h in
+rune_none text None h = λ n literal. let e : Some n ≡ None = sym (rune_read text n literal)
+    ∙ sym h in
     cc
 rune_none text (Some v) h = tt

@@ -260,7 +260,8 @@ zero_sound (b ∷ bytes) n p = (elim (is_prefix_letter b) as (λ t. is_prefix_le
       | false ↦ λ e q. octal_sound b bytes n q
     ]) refl p
 
-pub integer_sound : (bytes : List ℕ) (n : ℕ) → read_integer bytes ≡ Some n → IsIntegerLiteral bytes n
+pub integer_sound : (bytes : List ℕ) (n : ℕ) → read_integer bytes ≡ Some n
+    → IsIntegerLiteral bytes n
 integer_sound [] n p = cc
 integer_sound (b ∷ bytes) n p = (elim (b == digit_zero) as (λ t. (b == digit_zero) ≡ t
     → (if t then read_after_zero bytes else (if is_in_range 49 57 b then read_digits 10 false 0

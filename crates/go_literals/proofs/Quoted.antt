@@ -137,7 +137,8 @@ element_bytes quote (hexadecimal_escape letter digits) rest q h =
 
 elements_bytes : (quote : ℕ) (elements : List Element) (rest : List ℕ) → is_quote quote ≡ true
     → list_all (is_element quote) elements ≡ true
-    → string_length quote 0 (print_elements elements ++ rest) ≡ add (length (print_elements elements))
+    → string_length quote 0 (print_elements elements ++ rest)
+    ≡ add (length (print_elements elements))
     (string_length quote 0 rest)
 elements_bytes quote [] rest q h = add-zero-length (string_length quote 0 rest)
 elements_bytes quote (element ∷ elements) rest q h =
@@ -221,7 +222,8 @@ first_unquoted quote b bytes first q h = elim (cases_lt b 128) [
 ]
 
 pub text_sound : (quote : ℕ) → is_quote quote ≡ true → (fuel : ℕ) (bytes : List ℕ) (n : ℕ)
-    → length bytes ≤ fuel → IsUtf8 bytes → string_length quote 0 bytes ≡ Some n → TextAt quote bytes n
+    → length bytes ≤ fuel → IsUtf8 bytes → string_length quote 0 bytes ≡ Some n
+    → TextAt quote bytes n
 text_sound quote q zero [] n enough utf8 h = let none = text_nil quote in cc
 text_sound quote q zero (b ∷ bytes) n enough utf8 h = absurd (omega arith)
 text_sound quote q (suc fuel) [] n enough utf8 h = let none = text_nil quote in cc

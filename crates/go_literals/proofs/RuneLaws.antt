@@ -137,7 +137,8 @@ before_is (b ∷ c ∷ bytes) inner p =
           ∙ ap (λ t. t ++ single_quote ∷ []) (some_is (b ∷ front) inner q)
     ]) refl p
 
-escape_sound : (bytes : List ℕ) (n : ℕ) → read_escape single_quote bytes ≡ Some n → Inner (backslash ∷ bytes) n
+escape_sound : (bytes : List ℕ) (n : ℕ) → read_escape single_quote bytes ≡ Some n
+    → Inner (backslash ∷ bytes) n
 escape_sound [] n p = cc
 escape_sound (mark ∷ []) n p =
     (elim (is_escape_mark single_quote mark) as (λ t. is_escape_mark single_quote mark ≡ t
@@ -240,7 +241,8 @@ pub rune_sound : (bytes : List ℕ) (n : ℕ) → read_rune bytes ≡ Some n →
 rune_sound [] n p = cc
 rune_sound (b ∷ bytes) n p =
     (elim (b == single_quote) as (λ t. (b == single_quote) ≡ t
-    → (if t then before_quote bytes |> read_element else None) ≡ Some n → IsRuneLiteral (b ∷ bytes) n) [
+    → (if t then before_quote bytes |> read_element else None) ≡ Some n
+    → IsRuneLiteral (b ∷ bytes) n) [
       | true ↦ λ e q. let r = bind_some (before_quote bytes) read_element n q in
           let i = inner_sound r.0 n r.2 in
           record {

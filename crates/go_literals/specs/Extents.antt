@@ -25,7 +25,8 @@ escape_length quote (b ∷ bytes) = if is_escape_mark quote b then 1
 -- escape, or none where a newline, the end or an ill-formed escape comes first
 unfoldable pub string_length : ℕ → ℕ → List ℕ → Option ℕ
 string_length quote skip [] = None
-string_length quote (suc skip) (b ∷ bytes) = option_map (λ n. n + 1) (string_length quote skip bytes)
+string_length quote (suc skip) (b ∷ bytes) = option_map (λ n. n + 1)
+    (string_length quote skip bytes)
 string_length quote zero (b ∷ bytes) = if b == quote then Some 1
     else (if b == newline then None
     else (if b == backslash

@@ -1,6 +1,7 @@
 //! The values of integers.
 
-ghost use Rattle.std.specs.Prelude.{ℕ, ◌≡◌, ◌≤◌, ◌<◌, ◌+◌, ◌*◌, ◌^◌, false, IfNone, IfSome, SomeIff};
+ghost use Rattle.std.specs.Prelude.{ℕ, ◌≡◌, ◌≤◌, ◌<◌, ◌+◌, ◌*◌, ◌^◌, false, IfNone, IfSome};
+ghost use Rattle.std.specs.Prelude.{SomeIff};
 ghost use Rattle.go_ast.specs.Numbers.{is_prefix_letter};
 ghost use Rattle.go_literals.specs.Literals.{base_of, IsIntegerLiteral};
 ghost use Rattle.go_literals.specs.Options.{◌|>◌};

@@ -1,5 +1,5 @@
-//! What integer, rune and string literals of Go denote (The Go Programming Language Specification,
-//! "Integer literals", "Rune literals", "String literals"), and how many bytes they have.
+//! What integer and rune literals of Go denote, and how many bytes runes and strings have (The Go
+//! Programming Language Specification, "Integer literals", "Rune literals", "String literals").
 //!
 //! ```
 //! let number = integer_value(b"0x_FF");

@@ -56,7 +56,8 @@ fault-end others (v ∷ ws) stack h = go (after_word others v) refl h
     go (Some more) is e ih = rw is (ih more e)
 
 fault-is : (ws : List Word) (w : Word) → IsUnbalancedAt ws w → fault-from [] ws ≡ Some w
-fault-is _ _ (mismatched front w rest others nests none) = fault-at [] front w rest others nests none
+fault-is _ _ (mismatched front w rest others nests none) = fault-at [] front w rest others nests
+    none
 fault-is _ _ (left_open {ws} inner w nests) =
     fault-end [] ws (inner ++ w ∷ []) nests ∙ last-appended inner w
 

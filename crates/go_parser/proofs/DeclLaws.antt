@@ -1,7 +1,8 @@
 -- Declarations: what is read is spelled so, what is spelled so is read, and a chunk spells at most
 -- one.
 use Rattle.std.proofs.Common.{◌≡◌, ◌≢◌, ◌∙◌, ap, sym, refl, subst, ℕ, zero, suc, Bool, true, false}
-use Rattle.std.proofs.Common.{List, [], ◌∷◌, ◌++◌, ◌-◌, drop, Option, Some, None, ⊎_elim, ◌⊎◌, inl, inr}
+use Rattle.std.proofs.Common.{List, [], ◌∷◌, ◌++◌, ◌-◌, drop, Option, Some, None, ⊎_elim, ◌⊎◌, inl}
+use Rattle.std.proofs.Common.{inr}
 use Rattle.std.proofs.Common.{arith}
 use Rattle.std.proofs.lemmas.Grind.{common_steps}
 use Rattle.go_ast.specs.declared.declaration.Decl.{Decl}
@@ -154,7 +155,8 @@ keyword-sound m.Type w ws front body x is p e =
     (g.types (group-sound read_type_spec IsTypeSpec type_spec-sound m.Type w ws read.0 is read.1))
 keyword-sound m.Func w ws front body x is p e =
     let begun = precedes-begins (w ∷ ws) front body w ws (p refl) refl in
-    let fact = subst (λ us. (decls.Func <$> read_function (range_of w ws) body (drop 1 us)) ≡ Some x)
+    let fact = subst (λ us. (decls.Func <$> read_function (range_of w ws) body (drop 1 us))
+    ≡ Some x)
     begun.1 e in
     let read = map_some decls.Func (read_function (range_of w ws) body begun.0) x fact in
     subst (IsDecl (w ∷ ws)) read.2

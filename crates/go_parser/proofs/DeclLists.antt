@@ -55,7 +55,8 @@ imports-snoc (c ∷ ds) d e f = go (is_import c) e f (imports-snoc ds d)
         → ((not b || list_any is_other ds) ≡ true → is_import d ≡ false)
         → (imports_come_first ds ≡ true → Follows ds d
         → imports_come_first (ds ++ d ∷ []) ≡ true)
-        → cond b (imports_come_first (ds ++ d ∷ [])) (not (list_any is_import (ds ++ d ∷ []))) ≡ true
+        → cond b (imports_come_first (ds ++ d ∷ [])) (not (list_any is_import (ds ++ d ∷ [])))
+        ≡ true
     go true e f ih = ih e f
     go false e f ih = ap not (any-snoc is_import ds d)
         ∙ not-any (list_any is_import ds) (is_import d) e (f refl)
@@ -71,7 +72,8 @@ imports-unsnoc [] d e = (refl, λ f. absurd (cc f))
 imports-unsnoc (c ∷ ds) d e = go (is_import c) e (imports-unsnoc ds d)
   where
     go : (b : Bool)
-        → cond b (imports_come_first (ds ++ d ∷ [])) (not (list_any is_import (ds ++ d ∷ []))) ≡ true
+        → cond b (imports_come_first (ds ++ d ∷ [])) (not (list_any is_import (ds ++ d ∷ [])))
+        ≡ true
         → (imports_come_first (ds ++ d ∷ []) ≡ true
         → (imports_come_first ds ≡ true) × Follows ds d)
         → (cond b (imports_come_first ds) (not (list_any is_import ds)) ≡ true)
@@ -152,7 +154,8 @@ all-taken source ts chunks at h = let same = words-length source ts chunks in
     take_all at (words_in source ts chunks) (omega (arith, same, h))
 
 abbrev Answer : Bool → List Word → Option Decl → Type 0
-Answer others ws o = MatchOption o ((x : Decl) → IsInPlace others ws x → ⊥) (λ x. IsInPlace others ws x)
+Answer others ws o = MatchOption o ((x : Decl) → IsInPlace others ws x → ⊥)
+    (λ x. IsInPlace others ws x)
 
 module _ (source : List ℕ) (ts : List Token) (chunks : List Chunk) (at : ℕ) (d : Chunk)
     (found : List Decl) (others : Bool) (some : at < length chunks)

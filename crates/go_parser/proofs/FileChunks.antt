@@ -1,5 +1,6 @@
 -- The file that chunks are, by the first and the others.
-use Rattle.std.proofs.Common.{◌≡◌, ◌∙◌, ap, sym, refl, subst, ℕ, suc, ◌+◌, ◌-◌, ◌<◌, ◌≤◌, List, [], ◌∷◌}
+use Rattle.std.proofs.Common.{◌≡◌, ◌∙◌, ap, sym, refl, subst, ℕ, suc, ◌+◌, ◌-◌, ◌<◌, ◌≤◌, List, []}
+use Rattle.std.proofs.Common.{◌∷◌}
 use Rattle.std.proofs.Common.{length, take, drop, get_or, Option, Some, None, arith, take_all}
 use Rattle.go_ast.specs.declared.declaration.Decl.{Decl}
 use Rattle.go_ast.specs.declared.token.Span.{Span}

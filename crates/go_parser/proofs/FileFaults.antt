@@ -1,6 +1,7 @@
 -- The fault of chunks of which one is no declaration in its place.
 use Rattle.std.proofs.Common.{◌≡◌, ◌∙◌, ap, sym, refl, subst, ℕ, zero, suc, ◌+◌, ◌-◌, ◌*◌, ◌<◌, ◌≤◌}
-use Rattle.std.proofs.Common.{Bool, true, false, ◌&&◌, ◌==◌, List, [], ◌∷◌, ◌++◌, length, take, drop}
+use Rattle.std.proofs.Common.{Bool, true, false, ◌&&◌, ◌==◌, List, [], ◌∷◌, ◌++◌, length, take}
+use Rattle.std.proofs.Common.{drop}
 use Rattle.std.proofs.Common.{filter, map, get_or, All, arith, cond, append_assoc, take-append-drop}
 use Rattle.go_ast.specs.declared.declaration.Decl.{Decl}
 use Rattle.go_ast.specs.declared.fault.Fault.{Fault}
@@ -40,7 +41,8 @@ pieces-few mark depth front (w ∷ ws) = go (depth == 0 && same_mark w.mark mark
     longer (u ∷ us) v = ap suc (longer us v)
 
     go : (t : Bool) → length (filter has_words (pieces_from mark 0 [] ws)) ≤ 0 + length ws
-        → length (filter has_words (pieces_from mark (depth_after depth w.mark) (front ++ w ∷ []) ws))
+        → length (filter has_words (pieces_from mark (depth_after depth w.mark) (front ++ w ∷ [])
+        ws))
         ≤ length (front ++ w ∷ []) + length ws
         → length (filter has_words (cond t (front ∷ pieces_from mark 0 [] ws)
         (pieces_from mark (depth_after depth w.mark) (front ++ w ∷ []) ws)))
@@ -128,7 +130,8 @@ module _ (source : List ℕ) (ts : List Token) where
       let bad = files.bad (take at cs) words.0 words.1 (drop (suc at) cs) b.1.1.0 b.0.1 b.1.1.1
       (λ more m. b.1.2 more (subst (λ us. AreDecls us more) (sym next) m)) in (
         words.0,
-        subst (λ us. IsBadChunk source (words_of source ts c.tokens ∷ us) (at + 2) words.0) (sym parts)
+        subst (λ us. IsBadChunk source (words_of source ts c.tokens ∷ us) (at + 2) words.0)
+            (sym parts)
             (subst (λ n. IsBadChunk source (words_of source ts c.tokens ∷ take at cs
             ++ (words.0 ∷ words.1) ∷ drop (suc at) cs) n words.0) size bad),
         first-word chunk.tokens.first chunk.tokens.after words.0 words.1 td good.some good.within

@@ -26,7 +26,8 @@ use Rattle.type_parser.proofs.GrammarLaws.{marks_are, marks_same, marks_differ, 
 use Rattle.type_parser.proofs.GrammarLaws.{alone-complete, alone-sound, enclosed-sound, opens-with}
 use Rattle.type_parser.proofs.GrammarLaws.{bind_some, choice, each-complete, each-sound, guard_some}
 use Rattle.type_parser.proofs.GrammarLaws.{map_some, not_empty_some}
-use Rattle.type_parser.proofs.GrammarLaws.{signature-begins, read_signature-complete, read_signature-sound}
+use Rattle.type_parser.proofs.GrammarLaws.{signature-begins, read_signature-complete}
+use Rattle.type_parser.proofs.GrammarLaws.{read_signature-sound}
 use Rattle.type_parser.proofs.GrammarLaws.{read_entries-complete, read_entries-sound}
 
 name-sound : (ws : List Word) (x : Span) → read_name ws ≡ Some x → IsName ws x
@@ -193,7 +194,8 @@ module _ (tokens : TokenRange) (body : Option TokenRange) where
       (g.generic word name is is_name
       (enclosed-sound m.OpenBracket m.CloseBracket w ws parts.0.0 parts.0.1
       (marks_are w.mark m.OpenBracket p.0) parts.1)
-      (read_entries-sound parts.0.0 params.0 params.1) (read_signature-sound parts.0.1 read.0 read.1)))
+      (read_entries-sound parts.0.0 params.0 params.1)
+      (read_signature-sound parts.0.1 read.0 read.1)))
       (λ p. let read = map_some (plain_function tokens body name.span) (signature_in (w ∷ ws)) x
       p.1 in
       subst (IsFunction tokens body (word ∷ name ∷ w ∷ ws)) read.2

@@ -107,7 +107,10 @@ import-complete _ _ (g.named name path is text) =
 
 pub import-alone : StandsAlone read_import_spec IsImportSpec
 unfolding read_import_spec
-import-alone = record { nothing = refl; no_paren = λ w ws x e. no-paren w ws x (import-sound _ x e) }
+import-alone = record {
+  nothing = refl;
+  no_paren = λ w ws x e. no-paren w ws x (import-sound _ x e);
+}
   where
     no-paren : (w : Word) (ws : List Word) (x : ImportSpec) → IsImportSpec (w ∷ ws) x
         → w.mark ≢ m.OpenParen

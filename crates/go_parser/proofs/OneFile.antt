@@ -24,7 +24,8 @@ decls-one (c ∷ cs) (d ∷ ds) (e ∷ es) a b =
 
 pub clause-one : (source : List ℕ) (ws : List Word) (x y : Span) → IsPackageClause source ws x
     → IsPackageClause source ws y → x ≡ y
-clause-one source _ _ _ (f.names_package word name is is_name some) (f.names_package _ _ _ _ _) = refl
+clause-one source _ _ _ (f.names_package word name is is_name some) (f.names_package _ _ _ _ _) =
+    refl
 
 file-one : (source : List ℕ) (cs : List (List Word)) (x y : File) → IsFile source cs x
     → IsFile source cs y → x ≡ y

@@ -68,7 +68,8 @@ does stack w after h = go (opens w.mark) (closes w.mark) refl refl
       where
         test : (b : Bool) → same_mark w.mark (closing_of o.mark) ≡ b → Does (o ∷ others) w after
         test true s = closing c o
-            (ap (λ us. o ∷ us) (some-is others after (sym (closed-is others o w c s) ∙ closing-is (o ∷ others) w c ∙ e)))
+            (ap (λ us. o ∷ us) (some-is others after
+            (sym (closed-is others o w c s) ∙ closing-is (o ∷ others) w c ∙ e)))
             (marks_are w.mark (closing_of o.mark) s)
         test false s = absurd (cc (unclosed-is others o w c s, closing-is (o ∷ others) w c, e))
 

@@ -2,7 +2,8 @@
 use Rattle.std.proofs.Common.{◌≡◌, ◌∙◌, ap, sym, refl, subst, ℕ, zero, suc, ◌+◌, ◌-◌, ◌<◌, ◌≤◌}
 use Rattle.std.proofs.Common.{Bool, true, false, ◌&&◌, ◌==◌, List, [], ◌∷◌, ◌++◌, append_assoc}
 use Rattle.std.proofs.Common.{append-nil, length, map, drop, Option, Some, None, All, filter}
-use Rattle.std.proofs.Common.{⊎_elim, inl, inr, ◌⊎◌, reverse, arith, get_or, length-append, length-drop, take_all}
+use Rattle.std.proofs.Common.{⊎_elim, inl, inr, ◌⊎◌, reverse, arith, get_or, length-append}
+use Rattle.std.proofs.Common.{length-drop, take_all}
 use Rattle.type_parser.proofs.GrammarLaws.{length-reverse}
 use Rattle.std.proofs.lemmas.Bool.Decides.{nat_tests}
 use Rattle.std.proofs.lemmas.Grind.{common_steps}
@@ -166,7 +167,8 @@ module _ (words rest : List Word) (w : Word) (place : ℕ) (found : List Chunk)
           let head : kept o ≡ b = ap (λ us. get_or us 0 b) (e ∙ is) in
           let match : same_mark w.mark (closing_of o.mark) ≡ true =
           ap (λ k. same_mark w.mark k.closing) head ∙ same in
-          goes-on after others (Some b.place) (ap (λ us. after_word us w) s ∙ closed-is after o w c match)
+          goes-on after others (Some b.place)
+          (ap (λ us. after_word us w) s ∙ closed-is after o w c match)
           (and-false (length r.stack == 0) (same_mark w.mark m.Semi) (closes-no-semi w.mark c)) at
           (ap (drop 1) (e ∙ is))
           (λ none. subst (λ k. LastCloses first (drop first r.front ++ w ∷ []) (Some k.place)) head
@@ -186,7 +188,8 @@ module _ (words rest : List Word) (w : Word) (place : ℕ) (found : List Chunk)
       → closes w.mark ≡ true → same_mark w.mark b.closing ≡ false → IsUnbalancedAt words w
   other-open b others is c off = go r.stack refl r.entries
     where
-      go : (stack : List Word) → r.stack ≡ stack → map kept stack ≡ brackets → IsUnbalancedAt words w
+      go : (stack : List Word) → r.stack ≡ stack → map kept stack ≡ brackets
+          → IsUnbalancedAt words w
       go [] s e = absurd (cc)
       go (o ∷ after) s e =
           let head : kept o ≡ b = ap (λ us. get_or us 0 b) (e ∙ is) in
@@ -248,10 +251,14 @@ module _ (words rest : List Word) (w : Word) (place : ℕ) (found : List Chunk)
   -- the chunk that ends before the semicolon
   pub semi-ends : w.mark ≡ m.Semi → brackets ≡ [] → first < place
       → Reached words rest (place + 1)
-      (found ++ record { tokens = record { first = first; after = place }; opened = opened } ∷ []) []
+      (found ++ record { tokens = record { first = first; after = place }; opened = opened } ∷ [])
+      []
       (place + 1) None
   semi-ends is none more =
-      ends-any (found ++ record { tokens = record { first = first; after = place }; opened = opened } ∷ [])
+      ends-any (found ++ record {
+        tokens = record { first = first; after = place };
+        opened = opened;
+      } ∷ [])
       is none
       (map-append (λ c. segment words c.tokens.first c.tokens.after) found
       (record { tokens = record { first = first; after = place }; opened = opened } ∷ [])
@@ -259,7 +266,8 @@ module _ (words rest : List Word) (w : Word) (place : ℕ) (found : List Chunk)
       ∙ ap (λ ps. filter has_words r.done ++ ps) some))))
       (All-push (IsEnded words) found _ r.each (record {
         some = more;
-        within = let a = r.count in let b = ap length r.whole in let c = length-append r.front (w ∷ rest) in
+        within = let a = r.count in let b = ap length r.whole in
+            let c = length-append r.front (w ∷ rest) in
             omega (arith, a, b, c);
         last = rw since (r.last (no-brackets r.stack (r.entries ∙ none)) more);
       }))
@@ -302,7 +310,8 @@ module _ (words : List Word) (place : ℕ) (found : List Chunk) (brackets : List
       ∙ ap Some (no-brackets r.stack (r.entries ∙ none))
 
   cut-all : brackets ≡ [] → (ps : List (List Word))
-      → pieces_from m.Semi 0 (drop first r.front) [] ≡ ps → chunks words ≡ filter has_words (r.done ++ ps)
+      → pieces_from m.Semi 0 (drop first r.front) [] ≡ ps → chunks words
+      ≡ filter has_words (r.done ++ ps)
   unfolding chunks
   cut-all none ps is = ap (filter has_words) cut-is
     where
@@ -356,7 +365,8 @@ module _ (words : List Word) (place : ℕ) (found : List Chunk) (brackets : List
       → (place ≤ first → now ≡ found) → brackets ≡ [] → AreEnded words now
   end-any now ends stays none = ⊎_elim
       (λ more. subst (AreEnded words) (sym (ends more)) (end-ends none more))
-      (λ less. subst (AreEnded words) (sym (stays less)) (end-alone none less)) (less-or first place)
+      (λ less. subst (AreEnded words) (sym (stays less)) (end-alone none less))
+      (less-or first place)
 
   -- a bracket that is left open
   pub left-open : (others : List OpenBracket) (b : OpenBracket) → brackets ≡ others ++ b ∷ []
@@ -373,7 +383,8 @@ module _ (words : List Word) (place : ℕ) (found : List Chunk) (brackets : List
           let more = split stack us (ap (drop 1) e) in
           (w ∷ more.0, more.1, ap (λ vs. w ∷ vs) more.2, more.3)
 
-      go : (stack : List Word) (us : List OpenBracket) → r.stack ≡ stack → map kept stack ≡ us ++ b ∷ []
+      go : (stack : List Word) (us : List OpenBracket) → r.stack ≡ stack → map kept stack
+          ≡ us ++ b ∷ []
           → IsFaultOf words b.offset
       go stack us s e =
           let parts = split stack us e in

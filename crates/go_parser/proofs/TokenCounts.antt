@@ -1,12 +1,15 @@
 -- A source has at most two tokens a byte.
-use Rattle.std.proofs.Common.{◌≡◌, ℕ, ◌+◌, ◌*◌, ◌≤◌, ◌<◌, ◌&&◌, Bool, true, false, List, [], ◌∷◌, ◌++◌, length, sym, ap, arith}
+use Rattle.std.proofs.Common.{◌≡◌, ℕ, ◌+◌, ◌*◌, ◌≤◌, ◌<◌, ◌&&◌, Bool, true, false, List, [], ◌∷◌}
+use Rattle.std.proofs.Common.{◌++◌, length, sym, ap, arith}
 use Rattle.std.proofs.lemmas.List.{length-append}
 use Rattle.std.specs.Prelude.{if◌then◌else◌}
 use Rattle.go_ast.specs.declared.token.Token.{Token}
 use Rattle.go_ast.specs.declared.token.Comment.{Comment}
 use Rattle.go_ast.specs.declared.token.TokenKind.TheVariants.{AutoSemi}
-use Rattle.go_ast.specs.Lexical.{Item, Spelling, print_item, Stands, white_space, byte_order_mark, line_comment, general_comment, spelled}
-use Rattle.go_ast.specs.Reading.{Leads, Reads, line_ends, takes_semicolon, semicolon_after, token_of, tokens_at, tokens_of}
+use Rattle.go_ast.specs.Lexical.{Item, Spelling, print_item, Stands, white_space, byte_order_mark}
+use Rattle.go_ast.specs.Lexical.{line_comment, general_comment, spelled}
+use Rattle.go_ast.specs.Reading.{Leads, Reads, line_ends, takes_semicolon, semicolon_after}
+use Rattle.go_ast.specs.Reading.{token_of, tokens_at, tokens_of}
 use Rattle.go_scanner.proofs.ScanLaws.{length-print_item-pos}
 
 few_where : (end : ℕ) (b : Bool)

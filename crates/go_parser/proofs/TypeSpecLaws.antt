@@ -140,7 +140,8 @@ type_spec-complete _ _ (g.plain name {ws} {alias} {x} is none s) =
       leading-none ws none,
       declared-complete (range_of name ws) name.span [] ws alias x s,
     ) refl
-type_spec-complete _ _ (g.generic name {ws} {inner} {rest} {params} {alias} {x} is brackets spelled s) =
+type_spec-complete _ _ (g.generic name {ws} {inner} {rest} {params} {alias} {x} is brackets spelled
+    s) =
     rw (
       marks_same name.mark m.Ident is,
       leading-complete ws inner rest params brackets spelled,

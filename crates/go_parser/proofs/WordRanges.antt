@@ -1,5 +1,6 @@
 -- The words of a range of tokens, in parts.
-use Rattle.std.proofs.Common.{◌≡◌, ◌∙◌, ap, sym, refl, subst, ℕ, zero, suc, ◌+◌, ◌-◌, ◌<◌, ◌≤◌, List, []}
+use Rattle.std.proofs.Common.{◌≡◌, ◌∙◌, ap, sym, refl, subst, ℕ, zero, suc, ◌+◌, ◌-◌, ◌<◌, ◌≤◌}
+use Rattle.std.proofs.Common.{List, []}
 use Rattle.std.proofs.Common.{◌∷◌, ◌++◌, length, take, drop, arith, unwrap_or, slice_get}
 use Rattle.std.proofs.lemmas.Grind.{common_steps}
 use Rattle.go_ast.specs.declared.token.Token.{Token}
@@ -52,7 +53,8 @@ cut-length ts a b h l = grind (arith, common_steps, h, l)
 
 -- a range of tokens in two parts
 pub words-split : (source : List ℕ) (ts : List Token) (a b c : ℕ) → a ≤ b → b ≤ c → c ≤ length ts
-    → words_of source ts (range a c) ≡ words_of source ts (range a b) ++ words_of source ts (range b c)
+    → words_of source ts (range a c) ≡ words_of source ts (range a b) ++ words_of source ts
+    (range b c)
 unfolding words_of
 words-split source ts a b c h k l =
     let within : b ≤ length ts = omega (arith, k, l) in

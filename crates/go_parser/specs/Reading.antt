@@ -1,6 +1,7 @@
 -- Cited by private clauses and proofs. The declaration that a chunk's words spell, by one test
 -- after another: the plain program next to the grammar.
-use Rattle.std.specs.Prelude.{Bool, true, false, ◌&&◌, ◌||◌, List, [], ◌∷◌, ◌++◌, Option, Some, None}
+use Rattle.std.specs.Prelude.{Bool, true, false, ◌&&◌, ◌||◌, List, [], ◌∷◌, ◌++◌, Option, Some}
+use Rattle.std.specs.Prelude.{None}
 use Rattle.std.specs.Prelude.{if◌then◌else◌, drop}
 use Rattle.go_ast.specs.declared.declaration.Decl.{Decl}
 use Rattle.go_ast.specs.declared.declaration.Decl.TheVariants as decls

@@ -1,6 +1,7 @@
 //! One token after another, with the brackets that are open.
 
-ghost use Rattle.std.specs.Prelude.{◌≡◌, ℕ, ◌+◌, ◌^◌, ◌<◌, ◌≤◌, ◌∷◌, [], ◌++◌, List, IfOk, MatchBool, OnOk, reverse, true};
+ghost use Rattle.std.specs.Prelude.{◌≡◌, ℕ, ◌+◌, ◌^◌, ◌<◌, ◌≤◌, ◌∷◌, [], ◌++◌, List, IfOk};
+ghost use Rattle.std.specs.Prelude.{MatchBool, OnOk, reverse, true};
 ghost use Rattle.go_ast.specs.declared.word.Word.{Word};
 ghost use Rattle.go_ast.specs.Chunks.{IsUnbalancedAt};
 ghost use Rattle.go_ast.specs.Cutting as cutting;

@@ -1,5 +1,7 @@
 -- What the fault of a file says of its page.
-use Rattle.std.proofs.Common.{◌≡◌, ℕ, suc, ◌+◌, ◌-◌, ◌≤◌, Bool, true, false, List, [], ◌∷◌, Option, Some, None, All, inl, inr, length, map, refl, sym, ap, subst, ◌∙◌, arith}
+use Rattle.std.proofs.Common.{◌≡◌, ℕ, suc, ◌+◌, ◌-◌, ◌≤◌, Bool, true, false, List, [], ◌∷◌, Option}
+use Rattle.std.proofs.Common.{Some, None, All, inl, inr, length, map, refl, sym, ap, subst, ◌∙◌}
+use Rattle.std.proofs.Common.{arith}
 use Rattle.std.specs.Prelude.{IfSome, slice_get, unwrap_or}
 use Rattle.std.specs.List.{cons_option, enumerate_from, filter_map}
 use Rattle.std.specs.Str.{IsUtf8, IsValidUpTo, is_utf8}
@@ -22,7 +24,8 @@ use Rattle.corpus_piece.specs.Outcomes.{IsOutcomeOf, unread, large, oversized, u
 use Rattle.corpus_piece.specs.Outcomes.{bad_build_line, ignored, misspelled, accepted}
 use Rattle.corpus_piece.specs.Pieces.{IsJudged, JudgedFile}
 use Rattle.corpus_piece.proofs.OutcomeLaws.{accepted_read}
-use Rattle.corpus.specs.Corpora.{AcceptedFile, Input, IsCorpusOf, accepted_file, fault_as, input_of, is_kept, other_package}
+use Rattle.corpus.specs.Corpora.{AcceptedFile, Input, IsCorpusOf, accepted_file, fault_as, input_of}
+use Rattle.corpus.specs.Corpora.{is_kept, other_package}
 use Rattle.corpus.specs.declared.faults.FileFault.{FileFault}
 use Rattle.corpus.specs.declared.tables.Tables.{Tables}
 use Rattle.corpus.specs.Snapshots.{SourceSet}
@@ -36,7 +39,8 @@ not_true false f = refl
 not_utf8 : (bytes : List ℕ) (offset : ℕ) → IsValidUpTo bytes offset → is_utf8 bytes ≡ false
 not_utf8 bytes offset valid =
     not_true (is_utf8 bytes) (λ t. valid.longest (length bytes) valid.short
-    (subst IsUtf8 (sym (take_all (length bytes) bytes (omega arith))) (IsUtf8-from_is_utf8 bytes t)))
+    (subst IsUtf8 (sym (take_all (length bytes) bytes (omega arith)))
+    (IsUtf8-from_is_utf8 bytes t)))
 
 -- ---- the fault of an outcome
 
@@ -69,7 +73,8 @@ file_says bytes tokens kinds.Unread u h = tt
 file_says bytes tokens (kinds.BadBuildLine line) u h = absurd h
 
 module _ (entry : Entry) (fault : Fault) where
-  carried : (other : Fault) → Faulty fault ≡ Faulty other → SaysPage other entry → SaysPage fault entry
+  carried : (other : Fault) → Faulty fault ≡ Faulty other → SaysPage other entry
+      → SaysPage fault entry
   carried other same h =
       let is : fault ≡ other = cc in
       subst (λ f. SaysPage f entry) (sym is) h

@@ -1,10 +1,12 @@
 -- The lines of the hits of a name are those of the identifiers with that name.
-use Rattle.std.proofs.Common.{◌≡◌, ℕ, List, [], ◌∷◌, ◌++◌, All, Option, map, length, refl, sym, ap, ◌∙◌, subst, arith}
+use Rattle.std.proofs.Common.{◌≡◌, ℕ, List, [], ◌∷◌, ◌++◌, All, Option, map, length, refl, sym, ap}
+use Rattle.std.proofs.Common.{◌∙◌, subst, arith}
 use Rattle.std.specs.List.{flat_map}
 use Rattle.std.specs.Option.{option_map_or}
 use Rattle.std.proofs.lemmas.Grind.{flat_map-append}
 use Rattle.std.proofs.lemmas.List.Concat.{flat_map-cons}
-use Rattle.std.proofs.lemmas.List.Elements.{All-append, All-filter, All-head, All-map, All-nil, All-tail, All-weaker}
+use Rattle.std.proofs.lemmas.List.Elements.{All-append, All-filter, All-head, All-map, All-nil}
+use Rattle.std.proofs.lemmas.List.Elements.{All-tail, All-weaker}
 use Rattle.std.proofs.lemmas.List.Folds.{flat_map-map}
 use Rattle.std.proofs.lemmas.Option.{slice_get_within}
 use Rattle.corpus_piece.specs.Pieces.{JudgedFile}
@@ -13,7 +15,8 @@ use Rattle.go_ast.specs.declared.token.Token.{Token}
 use Rattle.go_ast.specs.Tokens.{IsWithin}
 use Rattle.go_scanner.proofs.ScanLaws.{within}
 use Rattle.ident_index.proofs.IndexLaws.{hits_of_texts}
-use Rattle.ident_index.specs.Hits.{IsReadFile, ReadFile, hit_of, hits_with_text, identifiers_named, source_and_hits_of}
+use Rattle.ident_index.specs.Hits.{IsReadFile, ReadFile, hit_of, hits_with_text, identifiers_named}
+use Rattle.ident_index.specs.Hits.{source_and_hits_of}
 use Rattle.ident_index.specs.Postings.{hits_named, named_of_all}
 use Rattle.ident_index.specs.declared.hit.Hit.{Hit}
 use Rattle.godoc_commands.specs.Find.{hit_lines, place_line}
@@ -72,7 +75,8 @@ module _ (all : List JudgedFile) (name : List ℕ) where
       let tokens = identifiers_named name a.bytes a.parsed.scanned.tokens in
       flat_map-map (hit_line all) (hit_of a.bytes a.parsed.file a.number) tokens
       ∙ ap (λ file. flat_map (λ (t : Token). line_in file t.span.start) tokens) is.at
-      ∙ (λ j. flat_map (λ (t : Token). place_line (is.path_is j) (is.bytes_are j) t.span.start) tokens)
+      ∙ (λ j. flat_map (λ (t : Token). place_line (is.path_is j) (is.bytes_are j) t.span.start)
+      tokens)
 
   all_lines_are : (files : List AcceptedFile) → All (IsAcceptedIn all) files
       → flat_map (hit_line all) (flat_map hits_from files) ≡ flat_map lines_from files
@@ -90,14 +94,17 @@ module _ (edition : Edition) (few : length edition.tables.files ≡ length editi
   all = edition.tables.files
 
   -- the hits of an accepted file stand in it
-  hits_stand : (a : AcceptedFile) → IsAcceptedIn all a → All (IsHitIn edition) (hits_from all name a)
+  hits_stand : (a : AcceptedFile) → IsAcceptedIn all a
+      → All (IsHitIn edition) (hits_from all name a)
   hits_stand a is =
       let tokens = a.parsed.scanned.tokens in
       let named = identifiers_named name a.bytes tokens in
-      let inside : All (IsWithin (length a.bytes)) named = All-filter _ (IsWithin (length a.bytes)) tokens
+      let inside : All (IsWithin (length a.bytes)) named = All-filter _ (IsWithin (length a.bytes))
+      tokens
       (within a.bytes tokens a.parsed.scanned.comments is.read.reads) in
       All-map (IsHitIn edition) (hit_of a.bytes a.parsed.file a.number) named
-      (All-weaker (IsWithin (length a.bytes)) (λ t. IsHitIn edition (hit_of a.bytes a.parsed.file a.number t))
+      (All-weaker (IsWithin (length a.bytes))
+      (λ t. IsHitIn edition (hit_of a.bytes a.parsed.file a.number t))
       (λ t w. record {
         in_range = rw (← few) (slice_get_within all a.number is.file is.at);
         file = is.file;
@@ -108,7 +115,8 @@ module _ (edition : Edition) (few : length edition.tables.files ≡ length editi
         within = rw is.bytes_are (omega (arith, w.0, w.1));
       }) named inside)
 
-  all_hits_stand : (files : List AcceptedFile) → All (IsAcceptedIn all) files → All (IsHitIn edition)
+  all_hits_stand : (files : List AcceptedFile) → All (IsAcceptedIn all) files
+      → All (IsHitIn edition)
       (flat_map (hits_from all name) files)
   all_hits_stand [] accepted = All-nil (IsHitIn edition)
   all_hits_stand (a ∷ files) accepted =

@@ -19,7 +19,8 @@ before change = change.state change.old
 abbrev pub after : {Object State : Type 0} → Change Object State → State
 after change = change.state change.new
 
--- the scans of a tree, where it exposes them, and how often `open_scan` or `list`, and `read` failed
+-- the scans of a tree, where it exposes them, and how often `open_scan` or `list`, and `read`
+-- failed
 pub record TreeState : Type 0 where
   pub scans : Option (List Contents)
   pub list_faults : ℕ

@@ -1,6 +1,7 @@
 -- Cited by public clauses. The pages, byte for byte. Their wording is the project's own; how a byte
 -- is escaped in an address is RFC 3986, section 2.1.
-use Rattle.std.specs.Prelude.{◌≡◌, ⊤, ℕ, Bool, true, false, ◌||◌, ◌==◌, List, [], ◌∷◌, ◌++◌, codes, decimal, if◌then◌else◌, map, slice_get, unwrap_or}
+use Rattle.std.specs.Prelude.{◌≡◌, ⊤, ℕ, Bool, true, false, ◌||◌, ◌==◌, List, [], ◌∷◌, ◌++◌, codes}
+use Rattle.std.specs.Prelude.{decimal, if◌then◌else◌, map, slice_get, unwrap_or}
 use Rattle.std.specs.Char.{is_ascii_alphanumeric}
 use Rattle.std.specs.List.{flat_map, list_any}
 use Rattle.std.specs.Str.{is_utf8}
@@ -68,8 +69,8 @@ abbrev pub has_page : Entry → Bool
 has_page (Bytes bytes) = is_utf8 bytes
 has_page entry = false
 
--- what a fault says of the page of its file: a file that isn't UTF-8 has none, one that is too large
--- or unread may have one, and after any other fault it has one
+-- what a fault says of the page of its file: a file that isn't UTF-8 has none, one that is too
+-- large or unread may have one, and after any other fault it has one
 abbrev pub SaysPage : Fault → Entry → Type 0
 SaysPage (kinds.NotUtf8 offset) entry = has_page entry ≡ false
 SaysPage kinds.FileTooLarge entry = ⊤

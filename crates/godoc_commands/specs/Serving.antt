@@ -1,5 +1,6 @@
 -- Cited by public clauses. What `answer` did. The project's own.
-use Rattle.std.specs.Prelude.{◌≡◌, ◌≢◌, ℕ, ◌⊎◌, ◌↔◌, Bool, IsTrue, List, [], ◌∷◌, replicate, Option, IfSome, ⊤}
+use Rattle.std.specs.Prelude.{◌≡◌, ◌≢◌, ℕ, ◌⊎◌, ◌↔◌, Bool, IsTrue, List, [], ◌∷◌, replicate, Option}
+use Rattle.std.specs.Prelude.{IfSome, ⊤}
 use Rattle.corpus.specs.Corpora.{Edition, IsEdition}
 use Rattle.go_ast.specs.declared.config.Config.{Config}
 use Rattle.link_io.specs.Streams.{Takes, Adds}
@@ -82,7 +83,8 @@ pub record AnswersPlan {T I O : Type 0} (config : Config) (tree : Change T TreeS
     (input : Change I InputState) (out : Change O OutputState) (status : Status) : Type 0 where
   pub of_answer : IsOfAnswer status
   pub scan : ScansOnce tree status
-  -- unless the tree gave no edition, the output gained the replies of an edition of this call's scan
+  -- unless the tree gave no edition, the output gained the replies of an edition of this call's
+  -- scan
   pub answered : (IsOfTree status → ⊥) → status ≢ statuses.NoMemory
       → Answers config tree input out status
   pub no_memory : status ≡ statuses.NoMemory

@@ -1,5 +1,6 @@
 -- Cited by public clauses. The words of the command line. The project's own.
-use Rattle.std.specs.Prelude.{ℕ, ◌&&◌, List, [], ◌∷◌, Option, Some, None, codes, drop, option_map, slice_index_or, if◌then◌else◌}
+use Rattle.std.specs.Prelude.{ℕ, ◌&&◌, List, [], ◌∷◌, Option, Some, None, codes, drop, option_map}
+use Rattle.std.specs.Prelude.{slice_index_or, if◌then◌else◌}
 use Rattle.std.specs.Str.{bytes_eq}
 use Rattle.go_ast.specs.declared.config.Config.{Config}
 use Rattle.go_chars.specs.Identifiers.{is_name}

@@ -5,7 +5,8 @@ ghost use Rattle.std.specs.List.{flat_map};
 ghost use Rattle.link_io.specs.Streams.{Adds};
 ghost use Rattle.plain_data.specs.Causes.{HasIoCause, IsCaused};
 ghost use Rattle.godoc_commands.specs.Changes.{output_change, tree_change};
-ghost use Rattle.godoc_commands.specs.HitLines.{AddsFound, AddsFoundFront, AddsFront, IsHitIn, hit_line};
+ghost use Rattle.godoc_commands.specs.HitLines.{AddsFound, AddsFoundFront, AddsFront, IsHitIn};
+ghost use Rattle.godoc_commands.specs.HitLines.{hit_line};
 ghost use Rattle.godoc_commands.specs.Outcome.{FindsPlan, IsOfTree, OpensAtMostOne};
 
 use crate::hit_lines::{hits_of, lines_of};

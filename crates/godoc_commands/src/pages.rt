@@ -2,7 +2,11 @@
 
 ghost use Rattle.std.specs.Prelude.{◌≡◌, ◌<◌, ◌++◌, All, IfOk, OnOk, length, map};
 ghost use Rattle.std.specs.List.{flat_map};
-ghost use Rattle.godoc_commands.specs.Pages.{SaysPage, address_of, entry_at, fault_item, fault_line, faults_line, faults_page, faults_start, file_link, has_page, list_page, list_start, list_end, message, message_page, package_line, page_end, page_start};
+ghost use Rattle.godoc_commands.specs.Pages.{SaysPage, address_of, entry_at, fault_item};
+ghost use Rattle.godoc_commands.specs.Pages.{fault_line, faults_line, faults_page, faults_start};
+ghost use Rattle.godoc_commands.specs.Pages.{file_link, has_page, list_page, list_start, list_end};
+ghost use Rattle.godoc_commands.specs.Pages.{message, message_page, package_line, page_end};
+ghost use Rattle.godoc_commands.specs.Pages.{page_start};
 
 use crate::faults::push_fault;
 use corpus::{Corpus, FileFault, own_tables};

@@ -84,10 +84,6 @@ fn has_line(bytes: &[u8]) -> bool
 
 /// Reads the front of a stream. `NoMemory` comes only where a head that keeps the rules stands
 /// there.
-///
-/// # Errors
-///
-/// `NoMemory` where an allocation is refused.
 pub fn read_front(alloc: Global, bytes: &[u8], spans: &mut [HeaderSpan]) -> Mem<Front>
     requires short { length bytes.now ≤ head_limit }
     requires room { length spans.old ≡ SPAN_COUNT }

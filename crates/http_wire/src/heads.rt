@@ -117,10 +117,6 @@ fn answer_at(
 impl Heads {
     /// A reader that was fed nothing. It takes its room at once: a buffer, and the places of as
     /// many fields as the longest head can have.
-    ///
-    /// # Errors
-    ///
-    /// `NoMemory` where an allocation is refused.
     pub fn new(alloc: Global) -> Mem<Heads>
         ensures rest { IfOk result (λ heads. heads.rest ≡ []) }
         ensures ended { IfOk result (λ heads. heads.ended ≡ false) }
@@ -171,10 +167,6 @@ impl Heads {
     /// head breaks a rule, where a line ended and no bytes can make what stands there a head, at as
     /// many bytes as a head may have, and where the input ended in a head; each further call then
     /// gives `Bad`. `NoMemory` comes only where a head is next, and the reader is then as it was.
-    ///
-    /// # Errors
-    ///
-    /// `NoMemory` where an allocation is refused.
     pub fn next(&mut self, alloc: Global) -> Mem<Next>
         ensures answer { IfOk result (λ next. Answers self.old next self.new.rest) }
 

@@ -55,10 +55,6 @@ fn close_line(last: bool) -> &'static str
 /// The head of a reply (RFC 9112, section 4), the empty line after it included. `length` is that of
 /// the page in bytes, `edition` the number of the edition that it was made of, and `last` says
 /// whether the connection closes after the reply.
-///
-/// # Errors
-///
-/// `NoMemory` where an allocation is refused.
 pub fn reply_head(alloc: Global, code: Code, length: u64, edition: u64, last: bool) -> Mem<Vec<u8>>
     ensures { IfOk result (λ head. head.items ≡ reply_head_of code length edition last) }
 {
@@ -77,10 +73,6 @@ pub fn reply_head(alloc: Global, code: Code, length: u64, edition: u64, last: bo
 }
 
 /// The whole reply to what can't be a request: 400, a close, and a line of text.
-///
-/// # Errors
-///
-/// `NoMemory` where an allocation is refused.
 pub fn bad_reply(alloc: Global) -> Mem<Vec<u8>>
     ensures { IfOk result (λ reply. reply.items ≡ bad_reply_bytes) }
 {

@@ -12,8 +12,10 @@ use Rattle.go_ast.specs.declared.tree.Signature.{Signature}
 use Rattle.go_ast.specs.declared.tree.Field.{Field}
 use Rattle.go_ast.specs.declared.tree.Element.{Element}
 use Rattle.go_ast.specs.declared.tree.Term.{Term}
-use Rattle.go_ast.specs.declared.tree.Element.TheOpen.{Element-F, Field-F, Param-F, Signature-F, Term-F, TypeExpr-F}
-use Rattle.go_ast.specs.declared.tree.Element.TheFolds.{fold-TypeExpr, fold-Param, fold-Signature, fold-Field, fold-Element, fold-Term}
+use Rattle.go_ast.specs.declared.tree.Element.TheOpen.{Element-F, Field-F, Param-F, Signature-F}
+use Rattle.go_ast.specs.declared.tree.Element.TheOpen.{Term-F, TypeExpr-F}
+use Rattle.go_ast.specs.declared.tree.Element.TheFolds.{fold-TypeExpr, fold-Param, fold-Signature}
+use Rattle.go_ast.specs.declared.tree.Element.TheFolds.{fold-Field, fold-Element, fold-Term}
 use Rattle.go_ast.specs.declared.declaration.Decl.{Decl}
 use Rattle.go_ast.specs.declared.declaration.Decl.TheVariants as decls
 use Rattle.go_ast.specs.declared.declaration.File.{File}

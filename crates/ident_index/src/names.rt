@@ -2,7 +2,9 @@
 
 ghost use Rattle.std.specs.Prelude.{◌≡◌, ◌++◌, OnOk, map};
 ghost use Rattle.std.specs.List.{flat_map};
-ghost use Rattle.ident_index.specs.Naming.{declares, names_of_element, names_of_field, names_of_param, names_of_signature, names_of_term, names_of_type};
+ghost use Rattle.ident_index.specs.Naming.{declares, names_of_element, names_of_field};
+ghost use Rattle.ident_index.specs.Naming.{names_of_param, names_of_signature, names_of_term};
+ghost use Rattle.ident_index.specs.Naming.{names_of_type};
 
 use crate::hit::HitKind;
 use go_ast::{Element, Field, Param, Seq, Signature, Span, Term, TypeExpr};

@@ -1,7 +1,8 @@
 -- Cited by public clauses. The packages that files make up. The project's own, after The Go
 -- Programming Language Specification, "Packages", and the documentation of `go test` on test files
 -- and on names that end in `_test`.
-use Rattle.std.specs.Prelude.{◌≡◌, ℕ, ◌-◌, ◌==◌, Bool, ◌&&◌, ◌||◌, not, nat_lt, if◌then◌else◌, List, [], ◌∷◌, ◌++◌, length, take, map, filter, All, codes, nat_eq}
+use Rattle.std.specs.Prelude.{◌≡◌, ℕ, ◌-◌, ◌==◌, Bool, ◌&&◌, ◌||◌, not, nat_lt, if◌then◌else◌, List}
+use Rattle.std.specs.Prelude.{[], ◌∷◌, ◌++◌, length, take, map, filter, All, codes, nat_eq}
 use Rattle.std.specs.List.{ends_with, enumerate_from, find, list_any, slice_get}
 use Rattle.std.specs.Option.{option_map_or}
 use Rattle.std.specs.Path.{slash, rsplit_once}

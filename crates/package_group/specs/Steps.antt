@@ -1,6 +1,7 @@
 -- Cited by private clauses and proofs. Files and packages as the maps of the code hold them, which
 -- go by the paths of packages.
-use Rattle.std.specs.Prelude.{◌≡◌, ℕ, Bool, false, not, ◌&&◌, Option, Some, None, List, [], filter, map, string_bytes, All}
+use Rattle.std.specs.Prelude.{◌≡◌, ℕ, Bool, false, not, ◌&&◌, Option, Some, None, List, [], filter}
+use Rattle.std.specs.Prelude.{map, string_bytes, All}
 use Rattle.std.specs.Borrow.{Bor}
 use Rattle.std.specs.List.{enumerate_from, list_any, slice_get}
 use Rattle.std.specs.Option.{option_map_or}
@@ -10,7 +11,8 @@ use Rattle.tree_io.specs.Path.{IsRising}
 use Rattle.package_group.specs.declared.facts.FileFact.{FileFact}
 use Rattle.package_group.specs.declared.facts.Grouped.{Grouped}
 use Rattle.package_group.specs.declared.facts.Package.{Package}
-use Rattle.package_group.specs.Groups.{Member, files_of, folder_of, has_name, import_path, name_of, places}
+use Rattle.package_group.specs.Groups.{Member, files_of, folder_of, has_name, import_path, name_of}
+use Rattle.package_group.specs.Groups.{places}
 
 -- the path of the package in the folder of a file
 abbrev pub path_of : List ℕ → FileFact → List ℕ

@@ -1,6 +1,7 @@
 //! Grouping files by their folders.
 
-ghost use Rattle.std.specs.Prelude.{◌≡◌, ◌<◌, ◌^◌, length, ◌&&◌, not, All, Contains, IfOk, IfSome, OnOk, List, ℕ, [], filter, map, string_bytes, is_some};
+ghost use Rattle.std.specs.Prelude.{◌≡◌, ◌<◌, ◌^◌, length, ◌&&◌, not, All, Contains, IfOk, IfSome};
+ghost use Rattle.std.specs.Prelude.{OnOk, List, ℕ, [], filter, map, string_bytes, is_some};
 ghost use Rattle.std.specs.BTreeMap.{IsOrdered, get_by_text};
 ghost use Rattle.std.specs.List.{list_any, slice_get};
 ghost use Rattle.std.specs.Option.{option_copied, option_map, option_map_or};
@@ -8,7 +9,8 @@ ghost use Rattle.std.specs.Str.{bytes_eq};
 ghost use Rattle.std.specs.String.{string_cmp};
 ghost use Rattle.tree_io.specs.Path.{Belongs};
 ghost use Rattle.package_group.specs.Groups.{IsGrouping, folder_of, has_name};
-ghost use Rattle.package_group.specs.Steps.{ArePlaced, is_beside, package_of, placed_by, placed_of, seen};
+ghost use Rattle.package_group.specs.Steps.{ArePlaced, is_beside, package_of, placed_by, placed_of};
+ghost use Rattle.package_group.specs.Steps.{seen};
 
 use crate::facts::{FileFact, Grouped, Package};
 use crate::folders::{folder_of, import_path};

@@ -54,10 +54,6 @@ fn without_slash(text: &str) -> &str
 }
 
 /// The package that a path value names.
-///
-/// # Errors
-///
-/// `NoMemory` where an allocation is refused.
 pub fn package_target(alloc: Global, value: &[u8]) -> Mem<Target>
     ensures { IfOk result (λ target. target ≡ package_target value.now) }
 {
@@ -68,10 +64,6 @@ pub fn package_target(alloc: Global, value: &[u8]) -> Mem<Target>
 }
 
 /// The source file that a path value names.
-///
-/// # Errors
-///
-/// `NoMemory` where an allocation is refused.
 pub fn source_target(alloc: Global, value: &[u8]) -> Mem<Target>
     ensures { IfOk result (λ target. target ≡ source_target value.now) }
 {

@@ -60,10 +60,6 @@ fn page_asked(text: Option<Txt>) -> Option<u32>
 
 /// The search that a query asks for: the first `q` is an identifier that isn't a keyword, and
 /// the first `p` the number of a page.
-///
-/// # Errors
-///
-/// `NoMemory` where an allocation is refused.
 pub fn search_target(alloc: Global, query: &str) -> Mem<Target>
     ensures { IfOk result (λ target. target ≡ search_target query.now) }
 {

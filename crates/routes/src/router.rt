@@ -54,10 +54,6 @@ fn add(pages: &mut matchit::Router<Page>, route: &str, page: Page) -> Mem<()>
 
 impl Router {
     /// The table of all routes.
-    ///
-    /// # Errors
-    ///
-    /// `NoMemory` where an allocation is refused.
     pub fn new(alloc: Global) -> Mem<Router> {
         let mut pages = matchit::Router::new(alloc);
         add(&mut pages, "", Page::List)?;
@@ -108,10 +104,6 @@ impl Router {
     }
 
     /// What a request asks for. A method other than GET and HEAD comes before all else.
-    ///
-    /// # Errors
-    ///
-    /// `NoMemory` where an allocation is refused.
     pub fn target(&self, alloc: Global, request: &Request) -> Mem<Target>
         ensures { IfOk result (λ target. target ≡ target_of request.now) }
     {

@@ -1,6 +1,7 @@
 -- Cited by public clauses. Which paths belong to a tree of Go sources, and in what order they
 -- stand. The rule is the project's own.
-use Rattle.std.specs.Prelude.{◌≢◌, ℕ, ◌-◌, ◌<◌, ◌≤◌, ◌==◌, List, length, take, map, All, IsTrue, codes, slice_index, nat_eq}
+use Rattle.std.specs.Prelude.{◌≢◌, ℕ, ◌-◌, ◌<◌, ◌≤◌, ◌==◌, List, length, take, map, All, IsTrue}
+use Rattle.std.specs.Prelude.{codes, slice_index, nat_eq}
 use Rattle.std.specs.List.{slice_split, ends_with}
 use Rattle.std.specs.List.Sorted.{IsStrictlySortedBy}
 use Rattle.std.specs.Cmp.Lexicographic.{slice_cmp}

@@ -1,6 +1,7 @@
 -- Cited by public clauses. The scans that a tree tells, each as the contents that it found. This is
 -- the project's own.
-use Rattle.std.specs.Prelude.{◌≡◌, ℕ, ◌-◌, List, [], ◌∷◌, ◌++◌, length, Option, Some, None, IfSome, IsSome, slice_index_or}
+use Rattle.std.specs.Prelude.{◌≡◌, ℕ, ◌-◌, List, [], ◌∷◌, ◌++◌, length, Option, Some, None, IfSome}
+use Rattle.std.specs.Prelude.{IsSome, slice_index_or}
 use Rattle.std.specs.Option.{ForSome}
 use Rattle.tree_io.specs.Path.{HasSourcePaths, paths_of}
 use Rattle.tree_io.specs.Sources.{Contents, bytes_at, entry_of}

@@ -1,6 +1,7 @@
 -- Cited by public clauses. The contents of a tree, the sources that a scan of them gives, and what
 -- a read gives of bytes. All this is the project's own.
-use Rattle.std.specs.Prelude.{◌≡◌, ℕ, ◌≤◌, Bool, true, false, List, length, Option, IsSomeAnd, ◌⊎◌, count_by, if◌then◌else◌, nat_lt}
+use Rattle.std.specs.Prelude.{◌≡◌, ℕ, ◌≤◌, Bool, true, false, List, length, Option, IsSomeAnd, ◌⊎◌}
+use Rattle.std.specs.Prelude.{count_by, if◌then◌else◌, nat_lt}
 use Rattle.std.specs.Map.{lookup}
 use Rattle.std.specs.Str.{bytes_eq}
 use Rattle.tree_io.specs.Path.{HasSourcePaths}

@@ -1,6 +1,7 @@
 //! The files of one version of a tree in memory.
 
-ghost use Rattle.std.specs.Prelude.{◌≡◌, [], map, IfOk, IfSome, IsSome, MatchOption, OnOk, Some, if◌then◌else◌};
+ghost use Rattle.std.specs.Prelude.{◌≡◌, [], map, IfOk, IfSome, IsSome, MatchOption, OnOk, Some};
+ghost use Rattle.std.specs.Prelude.{if◌then◌else◌};
 ghost use Rattle.std.specs.Option.{option_copied};
 ghost use Rattle.std.specs.Str.{bytes_eq};
 ghost use Rattle.tree_io.specs.Path.{Belongs, HasSourcePaths, paths_of};

@@ -72,7 +72,8 @@ impl MemTree {
 }
 
 impl Tree for MemTree {
-    ghost use Rattle.std.specs.Prelude.{◌≡◌, ◌↔◌, Some, All, IfOk, IfSome, IsErr, IsErrOf, IsSome, OnErr, OnOk};
+    ghost use Rattle.std.specs.Prelude.{◌≡◌, ◌↔◌, Some, All, IfOk, IfSome, IsErr, IsErrOf, IsSome};
+    ghost use Rattle.std.specs.Prelude.{OnErr, OnOk};
     ghost use Rattle.plain_data.specs.Causes.{HasCause, HasIoCause};
     ghost use Rattle.tree_io.specs.Path.{Belongs, IsRising, paths_of};
     ghost use Rattle.tree_io.specs.Sources.{bytes_at, entry_of, IsReadable};

@@ -2,7 +2,8 @@
 
 ghost use Rattle.std.specs.Prelude.{◌≡◌, ◌↔◌, All, IsTrue, codes, nat_eq};
 ghost use Rattle.std.specs.List.{ends_with};
-ghost use Rattle.tree_io.specs.Path.{Belongs, IsPathByte, IsPlainSegment, IsSourceFolder, segments_of, folders_of};
+ghost use Rattle.tree_io.specs.Path.{Belongs, IsPathByte, IsPlainSegment, IsSourceFolder};
+ghost use Rattle.tree_io.specs.Path.{segments_of, folders_of};
 
 /// The most bytes that a path may have.
 pub const MAX_PATH_BYTES: usize = 4096;

@@ -5,9 +5,11 @@ pub use Rattle.type_parser.proofs.Options.{not_empty_some, not_empty-is, each-so
 pub use Rattle.type_parser.proofs.Options.{each-stops, each-ends}
 pub use Rattle.type_parser.proofs.Closing.{marks_are, marks_same, marks_differ, differ_marks}
 pub use Rattle.type_parser.proofs.Closing.{some-is, pair-is}
-pub use Rattle.type_parser.proofs.Closed.{enclosed-sound, enclosed-complete, alone-sound, opens-with}
+pub use Rattle.type_parser.proofs.Closed.{enclosed-sound, enclosed-complete, alone-sound}
+pub use Rattle.type_parser.proofs.Closed.{opens-with}
 pub use Rattle.type_parser.proofs.Closed.{alone-complete}
-pub use Rattle.type_parser.proofs.Pieces.{pieces-more, pieces-last, piece-then, piece-all, no-pieces}
+pub use Rattle.type_parser.proofs.Pieces.{pieces-more, pieces-last, piece-then, piece-all}
+pub use Rattle.type_parser.proofs.Pieces.{no-pieces}
 pub use Rattle.type_parser.proofs.Pieces.{split-then, split-none}
 pub use Rattle.type_parser.proofs.WordMatching.{opens-not-closes, closes-not-opens, one-less}
 pub use Rattle.type_parser.proofs.ParamLaws.{Reads, signature-begins}

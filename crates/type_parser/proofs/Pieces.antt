@@ -2,7 +2,8 @@
 use Rattle.std.proofs.Common.{◌≡◌, ◌∙◌, ap, sym, refl, ℕ, suc, Bool, true}
 use Rattle.std.proofs.lemmas.Bool.Decides.{nat_tests}
 use Rattle.std.proofs.Common.{false, ◌&&◌, ◌==◌, List, [], ◌∷◌, ◌++◌, append_assoc}
-use Rattle.std.proofs.Common.{Option, Some, None, append-nil, length, take, drop, arith, ◌-◌, ◌≤◌, ◌<◌, take_all}
+use Rattle.std.proofs.Common.{Option, Some, None, append-nil, length, take, drop, arith, ◌-◌, ◌≤◌}
+use Rattle.std.proofs.Common.{◌<◌, take_all}
 use Rattle.go_ast.specs.declared.word.Word.{Word}
 use Rattle.go_ast.specs.declared.word.Mark.{Mark}
 use Rattle.go_ast.specs.declared.word.Mark.TheVariants as m

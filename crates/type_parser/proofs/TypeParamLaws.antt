@@ -1,7 +1,8 @@
 -- Type parameters, signatures and names with a type: what is read is spelled so, and what is
 -- spelled so is read.
 use Rattle.std.proofs.Common.{◌≡◌, ◌∙◌, ap, sym, refl, subst, true, false, Bool, List, [], ◌∷◌}
-use Rattle.std.proofs.Common.{Option, Some, None, if◌then◌else◌, Result, Ok, Err, IfOk, MatchOption, slice_get}
+use Rattle.std.proofs.Common.{Option, Some, None, if◌then◌else◌, Result, Ok, Err, IfOk, MatchOption}
+use Rattle.std.proofs.Common.{slice_get}
 use Rattle.go_ast.specs.declared.declaration.TypeParam.{TypeParam}
 use Rattle.go_ast.specs.declared.token.Span.{Span}
 use Rattle.go_ast.specs.declared.tree.Signature.{Signature}
@@ -117,7 +118,8 @@ not-empty o xs e =
 pub read_entries-sound : (ws : List Word) (ps : List TypeParam) → reads.read_entries f ws ≡ Some ps
     → Entries (pieces m.Comma ws) ps
 unfolding reads.read_entries
-read_entries-sound ws ps e = go (pieces m.Comma ws) (not-empty (reads.entries f (pieces m.Comma ws)) ps e) e
+read_entries-sound ws ps e = go (pieces m.Comma ws)
+    (not-empty (reads.entries f (pieces m.Comma ws)) ps e) e
   where
     go : (es : List (List Word)) → reads.entries f es ≡ Some ps
         → (reads.entries f es >>= not_empty) ≡ Some ps → Entries es ps

@@ -1,6 +1,7 @@
 -- Entries of type parameters, read from the last to the first.
 use Rattle.std.proofs.Common.{◌≡◌, ◌∙◌, ap, sym, refl, subst, ℕ, suc, ◌-◌, ◌<◌, List, [], ◌∷◌}
-use Rattle.std.proofs.Common.{◌++◌, reverse, length, take, drop, get_or, slice_get, Option, Some, None}
+use Rattle.std.proofs.Common.{◌++◌, reverse, length, take, drop, get_or, slice_get, Option, Some}
+use Rattle.std.proofs.Common.{None}
 use Rattle.std.proofs.Common.{arith, take-append-drop}
 use Rattle.std.proofs.lemmas.Option.{slice_get-get_or}
 use Rattle.go_ast.specs.declared.declaration.TypeParam.{TypeParam}
@@ -11,7 +12,8 @@ use Rattle.type_parser.proofs.Cuts.{reverse-front}
 use Rattle.type_parser.proofs.EntryLists.{from-place, length-reverse}
 
 -- the last value is the first of the others way round
-pub last-first : {A : Type 0} (xs : List A) → slice_get xs (length xs - 1) ≡ slice_get (reverse xs) 0
+pub last-first : {A : Type 0} (xs : List A) → slice_get xs (length xs - 1)
+    ≡ slice_get (reverse xs) 0
 last-first [] = refl
 last-first (x ∷ xs) =
     let count = length-reverse (x ∷ xs) in
@@ -20,7 +22,8 @@ last-first (x ∷ xs) =
     ∙ sym (slice_get-get_or (reverse (x ∷ xs)) 0 x (omega (arith, count)))
 
 module _ (f : List Word → Option TypeExpr) where
-  none-spreads : (front es : List (List Word)) → entries f es ≡ None → entries f (front ++ es) ≡ None
+  none-spreads : (front es : List (List Word)) → entries f es ≡ None → entries f (front ++ es)
+      ≡ None
   none-spreads [] es h = h
   none-spreads (d ∷ front) es h = rw (none-spreads front es h) refl
 

@@ -1,6 +1,7 @@
 //! Words whose brackets are matched, seen as the list of the words.
 
-ghost use Rattle.std.specs.Prelude.{◌≡◌, ◌∷◌, [], ◌++◌, ◌<◌, ◌≤◌, ◌==◌, IfOk, length, drop, MatchOption, unwrap_or};
+ghost use Rattle.std.specs.Prelude.{◌≡◌, ◌∷◌, [], ◌++◌, ◌<◌, ◌≤◌, ◌==◌, IfOk, length, drop};
+ghost use Rattle.std.specs.Prelude.{MatchOption, unwrap_or};
 ghost use Rattle.go_ast.specs.Marks.{words_of};
 ghost use Rattle.type_parser.specs.Cut as cut;
 ghost use Rattle.type_parser.specs.Reading as reading;

@@ -9,5 +9,7 @@ use Rattle.corpus.proofs.assembly.group_files.Goals as goal
 
 pub group-requires-clause-belong : goal.group-requires-clause-belong
 group-requires-clause-belong c =
-    subst (λ (l : List FileFact). All (λ file. Belongs file.path) l) (sym (c.as_slice.ensures.value ∙ c.in_ok-facts.ensures))
-    (All-map (λ (file : FileFact). Belongs file.path) (λ (file : Accepted). fact_of (seen file)) c.args.files.now c.requires.belong)
+    subst (λ (l : List FileFact). All (λ file. Belongs file.path) l)
+    (sym (c.as_slice.ensures.value ∙ c.in_ok-facts.ensures))
+    (All-map (λ (file : FileFact). Belongs file.path) (λ (file : Accepted). fact_of (seen file))
+    c.args.files.now c.requires.belong)

@@ -5,4 +5,5 @@ use Rattle.corpus.specs.Corpora.{fault_as}
 use Rattle.corpus.proofs.faulty.faults_of.Given as goal
 
 abbrev pub invariant-loop-number : goal.invariant-loop-number
-invariant-loop-number l = l.faults.items ≡ filter_map (λ (f : JudgedFile). fault_as l.pieces f f.outcome) (take l.number l.pieces)
+invariant-loop-number l = l.faults.items ≡ filter_map
+    (λ (f : JudgedFile). fault_as l.pieces f f.outcome) (take l.number l.pieces)

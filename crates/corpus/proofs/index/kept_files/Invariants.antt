@@ -7,4 +7,6 @@ use Rattle.corpus.proofs.index.kept_files.Given as goal
 
 abbrev pub invariant-loop-file : goal.invariant-loop-file
 invariant-loop-file l =
-    map source_and_hits l.kept.items ≡ map source_of (filter (λ a. not (list_any (nat_eq a.number) l.beside)) (map seen (take l.file-index l.files)))
+    map source_and_hits l.kept.items ≡ map source_of
+    (filter (λ a. not (list_any (nat_eq a.number) l.beside))
+    (map seen (take l.file-index l.files)))

@@ -11,4 +11,5 @@ renumbered-requires c =
     let before = c.loop-package.yielded in
     let p = c.in-Some.package in
     All_between P before p (into_iter_items c.next.new.self)
-    (subst (All P) (sym c.loop-package.invariant.all ∙ ap (λ (l : List Package). before ++ l) c.in-Some.ensures.steps.0) c.requires)
+    (subst (All P) (sym c.loop-package.invariant.all
+    ∙ ap (λ (l : List Package). before ++ l) c.in-Some.ensures.steps.0) c.requires)

@@ -15,7 +15,10 @@ loop-place-preserved c =
     let place = get_or now i 0 in
     let f = slice_index (map number_of files) in
     let same = unwritten f places now i 0 c.loop-place-test.true c.loop-place.invariant in
-    let within : place < length files = subst (λ (n : ℕ). n < length files) (sym same) (c.requires i 0 c.loop-place-test.true) in
-    let number : (get_or files place c.index-files-place.result).number ≡ f place = sym (get_or-map number_of files place c.index-files-place.result 0 within) in
+    let within : place < length files = subst (λ (n : ℕ). n < length files) (sym same)
+    (c.requires i 0 c.loop-place-test.true) in
+    let number : (get_or files place c.index-files-place.result).number
+    ≡ f place = sym (get_or-map number_of files place c.index-files-place.result 0 within) in
     ap (set now i) number
-    ∙ map_over_more f places now i place c.loop-place-test.true c.loop-place.invariant (get_or_default now i 0 place (omega arith))
+    ∙ map_over_more f places now i place c.loop-place-test.true c.loop-place.invariant
+    (get_or_default now i 0 place (omega arith))

@@ -5,4 +5,5 @@ use Rattle.corpus.proofs.packages.renumber.Given as goal
 
 abbrev pub invariant-loop-place : goal.invariant-loop-place
 invariant-loop-place l =
-    l.places ≡ map (slice_index (map number_of l.files)) (take l.place-index l.fn.places) ++ drop l.place-index l.fn.places
+    l.places ≡ map (slice_index (map number_of l.files)) (take l.place-index l.fn.places) ++ drop
+    l.place-index l.fn.places

@@ -14,5 +14,6 @@ pub returns : goal.returns
 returns c =
     let split = front_split c.args.text.now c.utf8.text in
     let whole : c.word_length.result - 0 ≡ c.word_length.result = omega arith in
-    c.range.ensures.value ∙ ap (λ n. take n c.args.text.now) whole ∙ ap (take c.word_length.result) split.1
+    c.range.ensures.value ∙ ap (λ n. take n c.args.text.now) whole
+    ∙ ap (take c.word_length.result) split.1
     ∙ take_at (word_at c.args.text.now) split.0 c.word_length.result (sym c.word_length.ensures)

@@ -3,7 +3,8 @@ use Rattle.std.proofs.lemmas.Result.{on_err_weaker, on_ok_weaker}
 use Rattle.corpus.specs.Corpora.{hits_in}
 use Rattle.ident_index.specs.Postings.{hits_named}
 use Rattle.godoc_commands.proofs.FoundLines.{found_stand}
-use Rattle.godoc_commands.proofs.Writing.{AddsFound-hits, AddsFoundFront-hits, AddsFoundFront-nothing, OnErr-always}
+use Rattle.godoc_commands.proofs.Writing.{AddsFound-hits, AddsFoundFront-hits}
+use Rattle.godoc_commands.proofs.Writing.{AddsFoundFront-nothing, OnErr-always}
 use Rattle.godoc_commands.proofs.find.write_found.Goals as goal
 
 pub write_lines-requires : goal.write_lines-requires

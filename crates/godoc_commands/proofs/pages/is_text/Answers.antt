@@ -20,5 +20,6 @@ tells bytes P Q (Err e) h =
 
 pub returns-in-Bytes : goal.returns-in-Bytes
 returns-in-Bytes c =
-    c.is_ok.ensures.value ∙ tells c.as_slice.result.now _ _ c.from_utf8.result c.from_utf8.ensures.cases
+    c.is_ok.ensures.value ∙ tells c.as_slice.result.now _ _ c.from_utf8.result
+    c.from_utf8.ensures.cases
     ∙ ap is_utf8 c.as_slice.ensures ∙ sym (ap has_page c.in-Bytes.is)

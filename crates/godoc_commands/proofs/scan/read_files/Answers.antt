@@ -25,7 +25,8 @@ returns-then-bytes-gt-MAX_SCAN_BYTES-clause-refused g c =
     _ _ kept.read (rw (c.as_str.ensures.text, kept.same_scans) at c.in_ok-entry.ensures.read) in
     pass_here _ c.args.paths c.loop-path.yielded path (into_iter_items c.next.new.self) sources
     entry _ _ _ cut read (rw (sym kept.bytes_are) kept.within)
-    ((λ j. kept.bytes_are j + c.entry_size-bytes.ensures j) ∙ sym (bytes_of-push sources path entry))
+    ((λ j. kept.bytes_are j + c.entry_size-bytes.ensures j)
+    ∙ sym (bytes_of-push sources path entry))
     (omega arith)
 
 pub loop-path-preserved : goal.loop-path-preserved
@@ -43,7 +44,8 @@ loop-path-preserved g c =
           (IsReadSoFar-append _ c.loop-path.yielded (path ∷ []) sources ((path, entry) ∷ []) _ _ _
           kept.read (rw (c.as_str.ensures.text, kept.same_scans) at ends.read));
       bytes_are =
-          (λ j. kept.bytes_are j + c.entry_size-bytes.ensures j) ∙ sym (bytes_of-push sources path entry)
+          (λ j. kept.bytes_are j + c.entry_size-bytes.ensures j)
+          ∙ sym (bytes_of-push sources path entry)
           ∙ ap bytes_of (sym pushed);
       within = omega arith;
       later = omega (arith, ends.cause.later, kept.later);

@@ -6,4 +6,5 @@ use Rattle.ident_index.proofs.declarations.file_names.Given as goal
 
 abbrev pub invariant-loop-decl : goal.invariant-loop-decl
 invariant-loop-decl l =
-    l.names.items ≡ declares kinds.PackageName l.file.package ∷ flat_map names_of_decl (take l.decl-index l.decl-items)
+    l.names.items ≡ declares kinds.PackageName l.file.package ∷ flat_map names_of_decl
+    (take l.decl-index l.decl-items)

@@ -4,4 +4,5 @@ use Rattle.ident_index.specs.Naming.{names_of_type_spec}
 use Rattle.ident_index.proofs.declarations.type_spec_names.Given as goal
 
 abbrev pub invariant-loop-spec : goal.invariant-loop-spec
-invariant-loop-spec l = l.names.items ≡ l.fn.names.items ++ flat_map names_of_type_spec (take l.spec-index l.spec-items)
+invariant-loop-spec l = l.names.items ≡ l.fn.names.items ++ flat_map names_of_type_spec
+    (take l.spec-index l.spec-items)

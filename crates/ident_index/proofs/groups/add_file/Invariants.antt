@@ -6,4 +6,8 @@ use Rattle.ident_index.proofs.groups.add_file.Given as goal
 abbrev pub invariant-loop-hit : goal.invariant-loop-hit
 invariant-loop-hit l =
     (before : List NamedHit) → HasGroups l.fn.groups before
-    → HasGroups l.groups (before ++ map (λ hit. record { name = name_at l.source hit.offset; hit = hit }) (take l.hit-index l.hits))
+    → HasGroups l.groups (before ++ map (λ hit. record {
+      name = name_at l.source hit.offset;
+      hit =
+          hit;
+    }) (take l.hit-index l.hits))

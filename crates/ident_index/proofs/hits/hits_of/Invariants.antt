@@ -10,4 +10,5 @@ invariant-loop-token l =
     (from : ℕ) × AreInOrder from (drop l.token-index l.token-items) (length l.source)
     × AreLinesTo l.starts from l.passed.lines
     × AreNamesBefore l.names.items from l.passed.names
-    × (l.hits.items ≡ map (hit_of l.source l.fn.file l.number) (identifiers (take l.token-index l.token-items)))
+    × (l.hits.items ≡ map (hit_of l.source l.fn.file l.number)
+    (identifiers (take l.token-index l.token-items)))

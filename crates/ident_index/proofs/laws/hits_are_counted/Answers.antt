@@ -7,4 +7,5 @@ pub returns-clause-table : goal.returns-clause-table
 returns-clause-table c = total_of_table
 
 pub returns-clause-file : goal.returns-clause-file
-returns-clause-file c = λ source tokens file number. length-map (identifiers tokens) (hit_of source file number)
+returns-clause-file c = λ source tokens file number. length-map (identifiers tokens)
+    (hit_of source file number)

@@ -10,8 +10,10 @@ invariant_of-result c =
     let entries = c.loop-name.entries.items in
     let none : c.loop-name.name-iterator ≡ [] = search (rules, rest_all) in
     let done : entries ≡ map posting_of c.args.groups.entries =
-    sym (append-nil entries) ∙ ap (λ left. entries ++ map posting_of left) (sym none) ∙ c.loop-name.invariant.left in
+    sym (append-nil entries) ∙ ap (λ left. entries ++ map posting_of left) (sym none)
+    ∙ c.loop-name.invariant.left in
     record {
-      rising = subst (AllPairs IsNameBelow) (sym done) (postings_rise c.args.groups c.len.ensures.ordered);
+      rising = subst (AllPairs IsNameBelow) (sym done)
+          (postings_rise c.args.groups c.len.ensures.ordered);
       whole = c.loop-name.invariant.whole;
     }

@@ -6,7 +6,8 @@ pub returns : goal.returns
 returns c =
     let are = c.in_ok-placed.ensures in
     by_folder c.args.prefix.now c.args.files.now c.requires.belong _
-    (is_by_path c.args.prefix.now c.args.files.now c.in_ok-placed.placed.items c.in_ok-folders.folders c.in_ok-names.names c.in_ok-packages.packages c.in_ok-others.others
+    (is_by_path c.args.prefix.now c.args.files.now c.in_ok-placed.placed.items
+    c.in_ok-folders.folders c.in_ok-names.names c.in_ok-packages.packages c.in_ok-others.others
     are
     (rw c.as_slice.ensures.value at c.in_ok-folders.ensures.members)
     (rw c.as_slice.ensures.value at c.in_ok-folders.ensures.paths)

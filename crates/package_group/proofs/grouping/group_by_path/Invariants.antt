@@ -7,5 +7,7 @@ use Rattle.package_group.proofs.grouping.group_by_path.Given as goal
 
 abbrev pub invariant-loop-path : goal.invariant-loop-path
 invariant-loop-path l =
-    ((q : List ℕ) → option_map_or (λ g. g.items) (get_by_text l.folders q) [] ≡ map (λ p. p.1) (filter (λ p. bytes_eq q (string_bytes p.0)) (take l.path-index l.placed)))
-    × ((q : List ℕ) → is_some (get_by_text l.folders q) ≡ list_any (λ p. bytes_eq q (string_bytes p.0)) (take l.path-index l.placed))
+    ((q : List ℕ) → option_map_or (λ g. g.items) (get_by_text l.folders q) []
+    ≡ map (λ p. p.1) (filter (λ p. bytes_eq q (string_bytes p.0)) (take l.path-index l.placed)))
+    × ((q : List ℕ) → is_some (get_by_text l.folders q)
+    ≡ list_any (λ p. bytes_eq q (string_bytes p.0)) (take l.path-index l.placed))

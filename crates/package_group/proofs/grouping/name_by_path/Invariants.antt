@@ -7,5 +7,8 @@ use Rattle.package_group.proofs.grouping.name_by_path.Given as goal
 
 abbrev pub invariant-loop-package : goal.invariant-loop-package
 invariant-loop-package l =
-    ((q : List ℕ) → is_some (get_by_text l.names q) ≡ list_any (λ p. bytes_eq q p.path) (take l.package-index l.packages))
-    × ((q : List ℕ) → IfSome (get_by_text l.names q) (λ name. Contains {X = List ℕ × List ℕ} (map (λ p. (p.path, p.name)) l.packages) (q, string_bytes name)))
+    ((q : List ℕ) → is_some (get_by_text l.names q)
+    ≡ list_any (λ p. bytes_eq q p.path) (take l.package-index l.packages))
+    × ((q : List ℕ) → IfSome (get_by_text l.names q)
+    (λ name. Contains {X = List ℕ × List ℕ} (map (λ p. (p.path, p.name)) l.packages)
+    (q, string_bytes name)))

@@ -6,4 +6,5 @@ use Rattle.package_group.proofs.names.is_test_name.Goals as goal
 pub returns-in-Some : goal.returns-in-Some
 returns-in-Some c =
     let whole = strips c.args.own.now (codes "_test") c.in-Some.rest.now c.in-Some.ensures.cases in
-    c.eq.ensures ∙ sym (bytes_eq-append c.in-Some.rest.now c.args.name.now (codes "_test")) ∙ ap (λ (l : List ℕ). bytes_eq l (c.args.name.now ++ codes "_test")) (sym whole)
+    c.eq.ensures ∙ sym (bytes_eq-append c.in-Some.rest.now c.args.name.now (codes "_test"))
+    ∙ ap (λ (l : List ℕ). bytes_eq l (c.args.name.now ++ codes "_test")) (sym whole)

@@ -8,5 +8,6 @@ returns g c = λ few.
     let looks = c.find.new.steps - c.args.steps.now in
     elim (cases_lt looks 5) [
       | inl less ↦ omega (arith, less, c.find.ensures.later)
-      | inr more ↦ let least : 2 ^ 5 ≤ 2 ^ looks = pow_mono more in absurd (omega (arith, least, few, c.find.ensures.cost))
+      | inr more ↦ let least : 2 ^ 5 ≤ 2 ^ looks = pow_mono more in
+          absurd (omega (arith, least, few, c.find.ensures.cost))
     ]

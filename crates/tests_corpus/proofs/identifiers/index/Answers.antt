@@ -16,7 +16,8 @@ file_from-requires c =
 pub loop-source-preserved : goal.loop-source-preserved
 loop-source-preserved c =
     subst (All IsNamed) (sym c.in_ok-push.ensures.items)
-    (All-push IsNamed c.loop-source.files.items c.file_from.result c.loop-source.invariant c.file_from.ensures)
+    (All-push IsNamed c.loop-source.files.items c.file_from.result c.loop-source.invariant
+    c.file_from.ensures)
 
 pub build-requires : goal.build-requires
 build-requires c = subst (All IsNamed) (sym c.as_slice.ensures.value) c.loop-source.invariant

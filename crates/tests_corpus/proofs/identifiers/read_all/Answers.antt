@@ -10,4 +10,5 @@ IsNamed source = HasNames source.text source.hits
 pub loop-number-preserved : goal.loop-number-preserved
 loop-number-preserved g c =
     subst (All IsNamed) (sym c.in_ok-push.ensures.items)
-    (All-push IsNamed c.loop-number.sources.items c.in_ok-source_of.field-0 c.loop-number.invariant c.in_ok-source_of.ensures)
+    (All-push IsNamed c.loop-number.sources.items c.in_ok-source_of.field-0 c.loop-number.invariant
+    c.in_ok-source_of.ensures)

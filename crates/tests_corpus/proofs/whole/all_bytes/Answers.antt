@@ -6,4 +6,5 @@ use Rattle.tests_corpus.proofs.whole.all_bytes.Goals as goal
 pub returns : goal.returns
 returns c =
     let all = take_all c.loop-entry.entry-index c.args.entries.now c.loop-entry-test.false in
-    subst (λ (n : ℕ). n < 2 ^ 64) (c.loop-entry.invariant.sum ∙ ap bytes_of all) c.loop-entry.invariant.fits
+    subst (λ (n : ℕ). n < 2 ^ 64) (c.loop-entry.invariant.sum ∙ ap bytes_of all)
+    c.loop-entry.invariant.fits

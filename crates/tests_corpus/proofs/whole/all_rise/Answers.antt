@@ -10,7 +10,8 @@ use Rattle.corpus.proofs.Lists.{one_of}
 use Rattle.tests_corpus.proofs.whole.all_rise.Goals as goal
 
 rising : (entries : List (List ℕ × Entry))
-    → ((k : ℕ) (d : List ℕ × Entry) → k + 1 < length entries → slice_cmp nat_cmp (get_or entries k d).0 (get_or entries (k + 1) d).0 ≡ Less)
+    → ((k : ℕ) (d : List ℕ × Entry) → k + 1 < length entries
+    → slice_cmp nat_cmp (get_or entries k d).0 (get_or entries (k + 1) d).0 ≡ Less)
     → IsRising (paths_of entries)
 rising entries adjacent =
     let path = λ (e : List ℕ × Entry). e.0 in
@@ -18,8 +19,10 @@ rising entries adjacent =
     (λ k below.
     let next : k + 1 < length entries = rw length-map at below in
     let d = one_of entries (k + 1) next in
-    ap (λ p. slice_cmp nat_cmp p (get_or (map path entries) (k + 1) [])) (get_or-map path entries k d [] (omega arith))
-    ∙ ap (slice_cmp nat_cmp (get_or entries k d).0) (get_or-map path entries (k + 1) d [] next) ∙ adjacent k d next)
+    ap (λ p. slice_cmp nat_cmp p (get_or (map path entries) (k + 1) []))
+    (get_or-map path entries k d [] (omega arith))
+    ∙ ap (slice_cmp nat_cmp (get_or entries k d).0) (get_or-map path entries (k + 1) d [] next)
+    ∙ adjacent k d next)
 
 pub returns : goal.returns
 returns c = λ _. rising c.args.entries.now (λ k d below. c.loop-place.invariant k d (omega arith))

@@ -6,6 +6,7 @@ use Rattle.tests_corpus.proofs.whole.are_sources.Goals as goal
 
 pub returns-then-all_belong : goal.returns-then-all_belong
 returns-then-all_belong c = λ rise. record {
-  belong = All-map Belongs (λ (e : List ℕ × Entry). e.0) c.args.entries.now (c.if-all_belong.ensures.0 refl);
+  belong = All-map Belongs (λ (e : List ℕ × Entry). e.0) c.args.entries.now
+      (c.if-all_belong.ensures.0 refl);
   rising = c.all_rise.ensures rise;
 }

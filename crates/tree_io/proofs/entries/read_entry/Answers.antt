@@ -5,7 +5,8 @@ pub returns-in-Ok-clause-read : goal.returns-in-Ok-clause-read
 returns-in-Ok-clause-read g c =
     let scans = g.T.Tree.scans c.args.tree.now in
     let before = g.T.Tree.read_faults c.args.tree.now in
-    IsReadSoFar-read scans _ _ before before _ c.args.path.now c.in-Ok.entry (IsReadSoFar-none scans before)
+    IsReadSoFar-read scans _ _ before before _ c.args.path.now c.in-Ok.entry
+    (IsReadSoFar-none scans before)
     c.in-Ok.ensures.cause.kept c.requires c.in-Ok.ensures.readable c.in-Ok.ensures.told
 
 pub returns-in-Err-Failed-clause-read : goal.returns-in-Err-Failed-clause-read

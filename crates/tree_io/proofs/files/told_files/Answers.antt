@@ -4,4 +4,12 @@ use Rattle.tree_io.proofs.FileMaps.{HasSourcePaths-empty, bytes_at-empty}
 use Rattle.tree_io.proofs.files.told_files.Goals as goal
 
 pub loop-path-init : goal.loop-path-init
-loop-path-init c = (HasSourcePaths-empty c.new-files.result c.new-files.ensures.empty, ([], sym (append-nil c.args.version), λ path _. bytes_at-empty c.new-files.result path c.new-files.ensures.empty))
+loop-path-init c = (
+  HasSourcePaths-empty c.new-files.result c.new-files.ensures.empty,
+  (
+    [],
+    sym (append-nil c.args.version),
+    λ path _. bytes_at-empty c.new-files.result path
+        c.new-files.ensures.empty,
+  ),
+)

@@ -15,7 +15,8 @@ overflow_cast-result c =
     let is = c.self.invariant.tables in
     omega (
       arith,
-      few_packages c.self.inside.snapshot.config.prefix c.self.inside.tables.files c.self.inside.tables.packages is.packages,
+      few_packages c.self.inside.snapshot.config.prefix c.self.inside.tables.files
+          c.self.inside.tables.packages is.packages,
       length-files c.self.inside.snapshot c.self.inside.tables.files is.files,
       c.self.invariant.sources.limits.files,
       ap length c.as_slice.ensures,
@@ -24,16 +25,26 @@ overflow_cast-result c =
 
 pub returns-in-Ok : goal.returns-in-Ok
 returns-in-Ok c =
-    let same : c.as_slice.result.now ≡ c.args.self.now.tables.packages = c.as_slice.ensures ∙ ap (λ (e : Edition). e.tables.packages) c.self.view_is in
-    let rising = subst (λ (ps : List Package). IsRising (map (λ (p : Package). p.path) ps)) (sym c.as_slice.ensures)
-    (paths_rise c.self.inside.snapshot.config.prefix c.self.inside.tables.files c.self.inside.tables.packages c.self.invariant.tables.packages) in
-    rw (← same) (found (λ (p : Package). p.path) c.as_slice.result.now rising c.args.path.now c.in-Ok.place c.in-Ok.ensures.bound
-    (c.in-Ok.ensures.position (λ p. slice_cmp nat_cmp p.path c.args.path.now) (always_returns_same _ _ _ (λ a r g called. search rules))))
+    let same : c.as_slice.result.now ≡ c.args.self.now.tables.packages = c.as_slice.ensures
+    ∙ ap (λ (e : Edition). e.tables.packages) c.self.view_is in
+    let rising = subst (λ (ps : List Package). IsRising (map (λ (p : Package). p.path) ps))
+    (sym c.as_slice.ensures)
+    (paths_rise c.self.inside.snapshot.config.prefix c.self.inside.tables.files
+    c.self.inside.tables.packages c.self.invariant.tables.packages) in
+    rw (← same) (found (λ (p : Package). p.path) c.as_slice.result.now rising c.args.path.now
+    c.in-Ok.place c.in-Ok.ensures.bound
+    (c.in-Ok.ensures.position (λ p. slice_cmp nat_cmp p.path c.args.path.now)
+    (always_returns_same _ _ _ (λ a r g called. search rules))))
 
 pub returns-in-Err : goal.returns-in-Err
 returns-in-Err c =
-    let same : c.as_slice.result.now ≡ c.args.self.now.tables.packages = c.as_slice.ensures ∙ ap (λ (e : Edition). e.tables.packages) c.self.view_is in
-    let rising = subst (λ (ps : List Package). IsRising (map (λ (p : Package). p.path) ps)) (sym c.as_slice.ensures)
-    (paths_rise c.self.inside.snapshot.config.prefix c.self.inside.tables.files c.self.inside.tables.packages c.self.invariant.tables.packages) in
-    rw (← same) (absent (λ (p : Package). p.path) c.as_slice.result.now rising c.args.path.now c.in-Err.field-0 c.in-Err.ensures.bound
-    (c.in-Err.ensures.position (λ p. slice_cmp nat_cmp p.path c.args.path.now) (always_returns_same _ _ _ (λ a r g called. search rules))))
+    let same : c.as_slice.result.now ≡ c.args.self.now.tables.packages = c.as_slice.ensures
+    ∙ ap (λ (e : Edition). e.tables.packages) c.self.view_is in
+    let rising = subst (λ (ps : List Package). IsRising (map (λ (p : Package). p.path) ps))
+    (sym c.as_slice.ensures)
+    (paths_rise c.self.inside.snapshot.config.prefix c.self.inside.tables.files
+    c.self.inside.tables.packages c.self.invariant.tables.packages) in
+    rw (← same) (absent (λ (p : Package). p.path) c.as_slice.result.now rising c.args.path.now
+    c.in-Err.field-0 c.in-Err.ensures.bound
+    (c.in-Err.ensures.position (λ p. slice_cmp nat_cmp p.path c.args.path.now)
+    (always_returns_same _ _ _ (λ a r g called. search rules))))

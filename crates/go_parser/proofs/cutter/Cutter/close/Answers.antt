@@ -1,4 +1,5 @@
-use Rattle.std.proofs.Common.{◌≡◌, ◌∙◌, sym, ap, subst, [], ◌∷◌, reverse, true, false, length, arith}
+use Rattle.std.proofs.Common.{◌≡◌, ◌∙◌, sym, ap, subst, [], ◌∷◌, reverse, true, false, length}
+use Rattle.std.proofs.Common.{arith}
 use Rattle.std.proofs.lemmas.Bool.Decides.{nat_tests}
 use Rattle.std.proofs.lemmas.List.{reverse-append}
 use Rattle.go_ast.specs.Marks.{same_mark}
@@ -8,7 +9,8 @@ use Rattle.go_parser.proofs.cutter.Cutter.close.Goals as goal
 pub returns-in-Some : goal.returns-in-Some
 returns-in-Some c = λ words rest w place at m closes r.
     closes-one words rest w place _ _ _ _ r c.in-Some.bracket (reverse c.pop.new.self.items)
-    (ap reverse c.in-Some.ensures.items ∙ reverse-append c.pop.new.self.items (c.in-Some.bracket ∷ []))
+    (ap reverse c.in-Some.ensures.items ∙ reverse-append c.pop.new.self.items
+    (c.in-Some.bracket ∷ []))
     closes at
     (subst (λ k. same_mark k c.in-Some.bracket.closing ≡ true) (m.closing closes)
     (sym c.is.ensures ∙ c.if-is.true))
@@ -16,7 +18,8 @@ returns-in-Some c = λ words rest w place at m closes r.
 pub returns-in_default : goal.returns-in_default
 returns-in_default c = λ words rest w place at m closes r.
     other-open words rest w place _ _ _ _ r c.in-Some.bracket (reverse c.pop.new.self.items)
-    (ap reverse c.in-Some.ensures.items ∙ reverse-append c.pop.new.self.items (c.in-Some.bracket ∷ []))
+    (ap reverse c.in-Some.ensures.items ∙ reverse-append c.pop.new.self.items
+    (c.in-Some.bracket ∷ []))
     closes
     (subst (λ k. same_mark k c.in-Some.bracket.closing ≡ false) (m.closing closes)
     (sym c.is.ensures ∙ c.if-is.false))

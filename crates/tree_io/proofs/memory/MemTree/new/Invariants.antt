@@ -7,4 +7,5 @@ use Rattle.tree_io.proofs.memory.MemTree.new.Given as goal
 
 abbrev pub invariant-loop-version : goal.invariant-loop-version
 invariant-loop-version l =
-    (l.yielded ++ into_iter_items l.version-iterator ≡ l.fn.versions) × AllZip IsTold l.yielded (map files_of l.told.items)
+    (l.yielded ++ into_iter_items l.version-iterator ≡ l.fn.versions)
+    × AllZip IsTold l.yielded (map files_of l.told.items)

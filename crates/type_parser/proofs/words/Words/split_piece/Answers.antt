@@ -1,8 +1,10 @@
-use Rattle.std.proofs.Common.{◌≡◌, sym, subst, refl, Some, None, [], ◌∷◌, ◌<◌, ◌-◌, take, drop, length}
+use Rattle.std.proofs.Common.{◌≡◌, sym, subst, refl, Some, None, [], ◌∷◌, ◌<◌, ◌-◌, take, drop}
+use Rattle.std.proofs.Common.{length}
 use Rattle.go_ast.specs.Cutting.{pieces, split_once}
 use Rattle.type_parser.specs.Matching.{plain, AreMatched}
 use Rattle.type_parser.proofs.WordMatching.{matched-take, matched-drop}
-use Rattle.type_parser.proofs.Cuts.{split-more, split-all, shorter, matched-rest, once-more, once-none}
+use Rattle.type_parser.proofs.Cuts.{split-more, split-all, shorter, matched-rest, once-more}
+use Rattle.type_parser.proofs.Cuts.{once-none}
 use Rattle.type_parser.proofs.words.Words.split_piece.Goals as goal
 
 pub invariant_of-result-in-len1-up : goal.invariant_of-result-in-len1-up
